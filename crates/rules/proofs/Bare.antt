@@ -1,0 +1,50 @@
+-- The register's lines are those of a table of held lines without their answers; so what is done to the one is done to the other,
+-- and what a question finds in the one it finds in the other.
+use mathlib.Core.Path.{_≡_, refl, ap, subst}
+use mathlib.Core.List.{List, [], _∷_, _++_, map}
+use mathlib.Core.Bool.{Bool, true, false, cond, _||_}
+use Prim.Native.Nat.{ℕ}
+use Rattle.std.specs.shelf.Lists.{All, kept-by}
+use Rattle.std.specs.declared.option.Option.{Option}
+use Rattle.std.specs.declared.option.Option.the-variants.{Some, None}
+use Rattle.std.proofs.shelf.Tests.{or-parts}
+use Rattle.rules.specs.declared.lines.Line.{Line}
+use Rattle.rules.specs.Calls.{pass-on, some-line, earliest-holder}
+use Rattle.rules.specs.Books.{Copied}
+use Rattle.rules.proofs.Holdings.{Held, renamed}
+use Rattle.rules.proofs.Standing.{left-of}
+use Rattle.rules.proofs.Passing.{heir}
+use Rattle.rules.proofs.Stores.{bare}
+
+abbrev Is-some : {X : Type 0} → Option X → Type 0
+Is-some None = ⊥
+Is-some (Some x) = Unit {0}
+
+pub some-not-none : {X : Type 0} (x : X) → Some x ≡ None → ⊥
+some-not-none x h = subst Is-some h tt
+
+none-cond : (b : Bool) (h : ℕ) (o : Option ℕ) → cond b (Some h) o ≡ None → (b ≡ false) × (o ≡ None)
+none-cond true h o e = absurd (some-not-none h e)
+none-cond false h o e = (refl, e)
+
+module _ {P O : Type 0} where
+  kept-cond : (b : Bool) (g : Held (Copied P O)) (ls : List (Line P)) (gs : List (Held (Copied P O))) → ls ≡ map bare gs → cond b (bare g ∷ ls) ls ≡ map bare (cond b (g ∷ gs) gs)
+  kept-cond true g ls gs e = ap (λ w. bare g ∷ w) e
+  kept-cond false g ls gs e = e
+
+  pub kept-bare : (k : ℕ → Bool) (gs : List (Held (Copied P O))) → kept-by (λ l. k (l .holder)) (map bare gs) ≡ map bare (left-of k gs)
+  kept-bare k [] = refl
+  kept-bare k (g ∷ gs) = kept-cond (k (g .holder)) g (kept-by (λ l. k (l .holder)) (map bare gs)) (left-of k gs) (kept-bare k gs)
+
+  pub passed-bare : (e q : ℕ) (gs : List (Held (Copied P O))) → pass-on e q (map bare gs) ≡ map bare (renamed (heir e q) gs)
+  passed-bare e q [] = refl
+  passed-bare e q (g ∷ gs) = ap (λ w. bare (record { holder = heir e q (g .holder); item = g .item }) ∷ w) (passed-bare e q gs)
+
+  -- no line passes a test
+  pub none-earliest : (test : Line P → Bool) (gs : List (Held (Copied P O))) → earliest-holder test (map bare gs) ≡ None → All (λ g. test (bare g) ≡ false) gs
+  none-earliest test [] e = tt
+  none-earliest test (g ∷ gs) e = let es = none-cond (test (bare g)) (g .holder) (earliest-holder test (map bare gs)) e in (es .0, none-earliest test gs (es .1))
+
+  pub none-some : (test : Line P → Bool) (gs : List (Held (Copied P O))) → some-line test (map bare gs) ≡ false → All (λ g. test (bare g) ≡ false) gs
+  none-some test [] e = tt
+  none-some test (g ∷ gs) e = let es = or-parts (test (bare g)) (some-line test (map bare gs)) e in (es .0, none-some test gs (es .1))

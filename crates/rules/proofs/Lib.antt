@@ -1,0 +1,16 @@
+mod Exchanges
+mod Holdings
+mod Kinship
+mod Standing
+mod Beginning
+mod Posting
+mod Abandoning
+mod Committing
+mod Passing
+mod Descending
+mod Stores
+mod Bare
+mod Pages
+mod Upheld
+mod Steps
+pub mod Law
