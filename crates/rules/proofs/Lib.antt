@@ -14,3 +14,4 @@ mod Pages
 mod Upheld
 mod Steps
 pub mod Law
+pub mod Refusing

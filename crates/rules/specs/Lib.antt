@@ -5,3 +5,4 @@ pub mod States
 pub mod Calls
 pub mod Books
 pub mod FairCopy
+pub mod TurnedAway

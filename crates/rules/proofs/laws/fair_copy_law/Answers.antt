@@ -1,5 +1,5 @@
 use Rattle.rules.proofs.Law.{fair-copy-law}
-use Rattle.rules.proofs.fair_copies.fair_copy_law.Needs as need
+use Rattle.rules.proofs.laws.fair_copy_law.Needs as need
 
 -- by the crossing law that the kind shows
 pub returns : need.returns
