@@ -1,13 +1,14 @@
 -- An abandon: an entry ends with all that have it as an elder, and what they hold ends with them.
-use mathlib.Core.Path.{_≡_, sym, subst}
+use mathlib.Core.Path.{sym, subst}
 use mathlib.Core.List.{List}
-use mathlib.Core.Bool.{Bool, true, not}
+use mathlib.Core.Bool.{Bool, not}
 use Prim.Native.Nat.{ℕ}
 use Rattle.rules.specs.declared.rows.Row.{Row}
 use Rattle.rules.specs.Entries.{is-own-or-elder}
 use Rattle.rules.specs.FairCopy.{Each-in-turn}
 use Rattle.rules.proofs.Exchanges.{Same}
-use Rattle.rules.proofs.Holdings.{Held, not-by, not-so}
+use Rattle.rules.proofs.Bools.{not-by, not-so}
+use Rattle.rules.proofs.Holdings.{Held}
 use Rattle.rules.proofs.Kinship.{Closed, rest, stood, kin-trans}
 use Rattle.rules.proofs.Standing.{Core, left-of, frame-rest, seen-rest, own-rest}
 

@@ -1,7 +1,7 @@
 -- A begin: a new entry stands, with nothing held and nothing copied.
 use mathlib.Core.Path.{_≡_, refl, sym, ap, subst, _∙_}
 use mathlib.Core.List.{List, [], _∷_}
-use mathlib.Core.Bool.{Bool, true, false, cond, _||_}
+use mathlib.Core.Bool.{true, false, cond, _||_}
 use mathlib.Core.Logic.{_⊎_, inl, inr}
 use Prim.Native.Nat.{ℕ, _<_}
 use native.Mathlib.Omega.{arith}
@@ -13,7 +13,8 @@ use Rattle.rules.specs.declared.rows.Row.{Row}
 use Rattle.rules.specs.Entries.{stands, elders, is-among, is-own-or-elder}
 use Rattle.rules.specs.FairCopy.{Each-in-turn}
 use Rattle.rules.proofs.Exchanges.{Same, same-nil}
-use Rattle.rules.proofs.Holdings.{Held, held, pairs-weaker, held-agree, held-none}
+use Rattle.rules.proofs.Pairs.{pairs-weaker}
+use Rattle.rules.proofs.Holdings.{Held, held, held-agree, held-none}
 use Rattle.rules.proofs.Kinship.{joined, joined-old, joined-cases, elders-joined, grown-joined, elders-new-top, elders-new-inner}
 use Rattle.rules.proofs.Standing.{Core, own, Ordered}
 

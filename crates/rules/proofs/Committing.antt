@@ -1,8 +1,8 @@
 -- A publish, or a keep at the top: an entry's lines change the value and end, and it ends.
-use mathlib.Core.Path.{_≡_, refl, sym, ap, subst, _∙_}
-use mathlib.Core.List.{List, [], _∷_, _++_}
+use mathlib.Core.Path.{_≡_, sym, ap, subst, _∙_}
+use mathlib.Core.List.{List, _++_}
 use mathlib.Core.Bool.{Bool, true, not}
-use mathlib.Core.Logic.{_⊎_, inl, inr}
+use mathlib.Core.Logic.{inl, inr}
 use Prim.Native.Nat.{ℕ, _<_}
 use native.Mathlib.Omega.{arith}
 use lib.Dec.{eqb}
@@ -12,7 +12,9 @@ use Rattle.rules.specs.declared.rows.Row.{Row}
 use Rattle.rules.specs.Entries.{stands, childless, elders, is-among, is-own-or-elder}
 use Rattle.rules.specs.FairCopy.{Each-in-turn}
 use Rattle.rules.proofs.Exchanges.{Same, Laws, same-sym, same-end, same-rightly, right-front, right-append, folded-append, stays-ok, past-all}
-use Rattle.rules.proofs.Holdings.{Held, held, Pairs, pairs-weaker, pairs-and, pairs-from, parts-by, split, cross-held, Crosses-both, not-by, not-so}
+use Rattle.rules.proofs.Bools.{parts-by, not-by, not-so}
+use Rattle.rules.proofs.Pairs.{Pairs, pairs-weaker, pairs-and, pairs-from}
+use Rattle.rules.proofs.Holdings.{Held, held, split, cross-held, Crosses-both}
 use Rattle.rules.proofs.Kinship.{Closed, rest, stood, among-cases, among-more, kin-self, kin-childless, elder-below, among-elder}
 use Rattle.rules.proofs.Standing.{Core, own, Ordered, left-of, held-ok, frame-rest, seen-rest, own-rest}
 

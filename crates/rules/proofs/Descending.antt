@@ -1,18 +1,19 @@
 -- The copies of an entry's elders, eldest first, and then its own, come to what the entry sees.
-use mathlib.Core.Path.{_≡_, refl, sym, subst}
+use mathlib.Core.Path.{_≡_, sym, subst}
 use mathlib.Core.List.{List, [], _∷_, _++_}
-use mathlib.Core.Bool.{Bool, true, _||_}
-use mathlib.Core.Logic.{_⊎_, inl, inr}
+use mathlib.Core.Bool.{true}
+use mathlib.Core.Logic.{inl, inr}
 use Prim.Native.Nat.{ℕ, _<_, _≤_}
 use native.Mathlib.Omega.{arith}
-use lib.Dec.{eqb}
 use Rattle.std.specs.shelf.Lists.{All, folded}
 use Rattle.std.proofs.shelf.Tests.{eqb-true, eq-eqb}
 use Rattle.rules.specs.declared.rows.Row.{Row}
 use Rattle.rules.specs.Entries.{stands, elders, is-among, is-own-or-elder}
 use Rattle.rules.specs.FairCopy.{Each-in-turn}
 use Rattle.rules.proofs.Exchanges.{Same, Laws, same-nil, same-trans, same-sym, same-left, same-right, same-end, same-rightly}
-use Rattle.rules.proofs.Holdings.{Held, held, held-none, pairs-weaker, parts-by, split}
+use Rattle.rules.proofs.Bools.{parts-by}
+use Rattle.rules.proofs.Pairs.{pairs-weaker}
+use Rattle.rules.proofs.Holdings.{Held, held, held-none, split}
 use Rattle.rules.proofs.Kinship.{Falls, kin-falls, kin-stands, kin-below, among-self, among-more, among-cases, among-all, all-from-among}
 use Rattle.rules.proofs.Standing.{Core, own, Ordered, held-ok}
 

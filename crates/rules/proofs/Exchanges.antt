@@ -1,5 +1,5 @@
 -- What crosses may be taken in either order: lists that differ by such exchanges, and what they share.
-use mathlib.Core.Path.{_≡_, refl, sym, ap, subst, _∙_}
+use mathlib.Core.Path.{_≡_, refl, ap, subst, _∙_}
 use mathlib.Core.List.{List, [], _∷_, _++_}
 use Rattle.std.specs.shelf.Lists.{All, folded}
 use Rattle.rules.specs.FairCopy.{Each-in-turn}

@@ -2,7 +2,7 @@
 use mathlib.Core.Path.{_≡_, refl, sym, ap, subst, _∙_}
 use mathlib.Core.List.{List, [], _∷_, _++_}
 use mathlib.Core.Bool.{Bool, true, false, cond, _&&_, false≢true}
-use mathlib.Core.Logic.{_⊎_, inl, inr}
+use mathlib.Core.Logic.{inl, inr}
 use Prim.Native.Nat.{ℕ}
 use lib.ListN.{length}
 use lib.Dec.{eqb}
@@ -18,9 +18,9 @@ use Rattle.rules.specs.declared.refusals.Refusal.the-variants.{Unsound}
 use Rattle.rules.specs.Entries.{stands, parent-of, elders}
 use Rattle.rules.specs.Cells.{value-at}
 use Rattle.rules.specs.States.{State, set-up, within, all-lawful, sound-for}
-use Rattle.rules.specs.Calls.{Answer, Outcome, seen, ask, first-no, further-questions, questions, turned-away, taken, unless-refused, step}
-use Rattle.rules.specs.Books.{Copied, Copy, then-block, lines-of, Book, new-book, rows-of, copy-of, begun-number, posting-answer, is-done, if-any, with-begun, with-line, with-fair-block, with-block, with-kept, with-abandoned, write}
-use Rattle.rules.specs.FairCopy.{Event, book-of, Leads, Each-in-turn, post-line, Gets-its-answer, Get-their-answers, values-after, lines-down, lines-so-far, Block, copy-of-blocks, block-if, settled-by, blocks-settled, Fair-copy-holds, Fair-copy-law}
+use Rattle.rules.specs.Calls.{Answer, seen, ask, first-no, further-questions, turned-away, taken, unless-refused, step}
+use Rattle.rules.specs.Books.{Copy, then-block, lines-of, Book, new-book, rows-of, begun-number, posting-answer, is-done, if-any, with-begun, with-line, with-fair-block, with-block, with-abandoned, write}
+use Rattle.rules.specs.FairCopy.{Event, book-of, Leads, post-line, Get-their-answers, values-after, lines-down, lines-so-far, Block, block-if, settled-by, blocks-settled, Fair-copy-holds, Fair-copy-law}
 use Rattle.rules.proofs.Exchanges.{folded-append, right-append}
 use Rattle.rules.proofs.Kinship.{Grown, elders-are}
 use Rattle.rules.proofs.Descending.{downward, so-far-right, so-far-end}

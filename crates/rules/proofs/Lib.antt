@@ -1,4 +1,6 @@
 mod Exchanges
+mod Bools
+mod Pairs
 mod Holdings
 mod Kinship
 mod Standing

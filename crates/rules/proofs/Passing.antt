@@ -1,25 +1,30 @@
 -- An inner keep: an entry's lines stay in their places and pass to its parent, and it ends.
 use mathlib.Core.Path.{_≡_, refl, sym, ap, subst, _∙_}
-use mathlib.Core.List.{List, [], _∷_, _++_, append-assoc}
+use mathlib.Core.List.{List, _∷_, _++_, append-assoc}
 use mathlib.Core.Bool.{Bool, true, false, cond, not, _&&_}
 use mathlib.Core.Logic.{_⊎_, inl, inr}
 use Prim.Native.Nat.{ℕ}
 use lib.Dec.{eqb}
 use Rattle.std.specs.shelf.Lists.{All, folded}
 use Rattle.std.proofs.shelf.Tests.{eqb-true, eq-eqb, ne-eqb, cases-bool, cases-eq, and-parts, and-from, not-from-false}
-use Rattle.std.proofs.shelf.Elements.{all-weaker}
+use Rattle.std.proofs.shelf.Elements.{all-weaker, all-map}
 use Rattle.rules.specs.declared.rows.Row.{Row}
 use Rattle.rules.specs.Entries.{stands, childless, elders, is-among, is-own-or-elder}
 use Rattle.rules.specs.FairCopy.{Each-in-turn}
 use Rattle.rules.proofs.Exchanges.{Same, Laws, same-trans, same-sym, same-left, same-right, same-all, same-rightly, right-front, right-back, right-append, stays-ok, past-all}
-use Rattle.rules.proofs.Holdings.{Held, held, Pairs, renamed, pairs-weaker, pairs-renamed, all-renamed, held-agree, held-renamed, parts-by, split, cross-held, Crosses-both, not-so, false-by}
-use Rattle.rules.proofs.Kinship.{Grown, Closed, rest, stood, grown-rest, stands-rest, elders-rest, among-cases, among-more, kin-self, kin-trans, kin-childless}
+use Rattle.rules.proofs.Bools.{parts-by, not-so, false-by}
+use Rattle.rules.proofs.Pairs.{Pairs, pairs-weaker, pairs-map}
+use Rattle.rules.proofs.Holdings.{Held, held, renamed, held-agree, held-renamed, split, cross-held, Crosses-both}
+use Rattle.rules.proofs.Kinship.{Grown, rest, stood, grown-rest, stands-rest, elders-rest, among-cases, among-more, kin-self, kin-trans, kin-childless}
 use Rattle.rules.proofs.Standing.{Frame, Core, own, Ordered, held-ok}
 use Rattle.rules.proofs.Committing.{others, not-other, other-not, closed-others}
 
 -- what e holds passes to q
 abbrev pub heir : ℕ → ℕ → ℕ → ℕ
 heir e q h = cond (eqb h e) q h
+
+abbrev passed-on : {X : Type 0} → ℕ → ℕ → Held X → Held X
+passed-on e q g = record { holder = heir e q (g .holder); item = g .item }
 
 heir-own : (e q h : ℕ) → h ≡ e → heir e q h ≡ q
 heir-own e q h i = rw (eq-eqb h e i)
@@ -80,9 +85,9 @@ module _ {V X : Type 0} {after : V → X → V} {Right : V → X → Type 0} {Ok
     passed-frame : Frame Okx Cr left passed-table
     passed-frame = record {
       grown = grown-rest (others e) rows grown (closed-others laws core e ch);
-      holders = all-renamed (heir e q) (λ g. stands left (g .holder) ≡ true) table (all-weaker (λ g. stands rows (g .holder) ≡ true) (λ g. stands left (heir e q (g .holder)) ≡ true) (λ g s. heir-stands (g .holder) s) table (core .frame .holders));
-      items-ok = all-renamed (heir e q) (λ g. Okx (g .item)) table (core .frame .items-ok);
-      order = pairs-renamed (heir e q) (Ordered Cr left) table
+      holders = all-map (λ g. stands left (g .holder) ≡ true) (passed-on e q) table (all-weaker (λ g. stands rows (g .holder) ≡ true) (λ g. stands left (heir e q (g .holder)) ≡ true) (λ g s. heir-stands (g .holder) s) table (core .frame .holders));
+      items-ok = all-map (λ g. Okx (g .item)) (passed-on e q) table (core .frame .items-ok);
+      order = pairs-map (passed-on e q) (Ordered Cr left) table
           (pairs-weaker (λ g. Okx (g .item)) (Ordered Cr rows) (λ g m. Cr (g .item) (m .item) ⊎ (is-own-or-elder left (heir e q (m .holder)) (heir e q (g .holder)) ≡ true))
           (λ g m og om o. elim o [ inl c ↦ inl c | inr h ↦ inr (heir-kin (g .holder) (m .holder) h) ]) table (core .frame .items-ok) (core .frame .order));
     }

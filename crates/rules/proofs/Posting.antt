@@ -12,7 +12,9 @@ use Rattle.rules.specs.declared.rows.Row.{Row}
 use Rattle.rules.specs.Entries.{stands, childless, is-own-or-elder}
 use Rattle.rules.specs.FairCopy.{Each-in-turn}
 use Rattle.rules.proofs.Exchanges.{Same, Laws, same-right, right-append}
-use Rattle.rules.proofs.Holdings.{Held, held, pairs-push, held-push, false-by}
+use Rattle.rules.proofs.Bools.{false-by}
+use Rattle.rules.proofs.Pairs.{pairs-push}
+use Rattle.rules.proofs.Holdings.{Held, held, held-push}
 use Rattle.rules.proofs.Kinship.{kin-self, kin-childless}
 use Rattle.rules.proofs.Standing.{Core, own, Ordered}
 

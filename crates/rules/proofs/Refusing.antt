@@ -1,7 +1,7 @@
 -- What a refusal says of the lines, from the questions that a call was asked.
 use mathlib.Core.Path.{_≡_, refl, sym, ap, subst, _∙_}
 use mathlib.Core.List.{List, [], _∷_, _++_}
-use mathlib.Core.Bool.{Bool, true, false, cond, not, _&&_, _||_, false≢true}
+use mathlib.Core.Bool.{Bool, true, false, cond, not, _&&_, false≢true}
 use mathlib.Core.Logic.{_⊎_, inl, inr}
 use Prim.Native.Nat.{ℕ}
 use native.Mathlib.Omega.{arith}
@@ -11,9 +11,8 @@ use Rattle.std.specs.Orderings.{Decides}
 use Rattle.std.specs.shelf.Lists.{All}
 use Rattle.std.specs.declared.option.Option.{Option}
 use Rattle.std.specs.declared.option.Option.the-variants.{Some, None}
-use Rattle.std.specs.declared.result.Result.{Result}
 use Rattle.std.specs.declared.result.Result.the-variants.{Ok, Err}
-use Rattle.std.proofs.shelf.Tests.{eqb-true, eq-eqb, and-parts, and-from, or-cases, or-left, or-right, not-true, cases-bool}
+use Rattle.std.proofs.shelf.Tests.{eqb-true, eq-eqb, and-parts, and-from, or-cases, or-left, or-right, not-true}
 use Rattle.cells.specs.Kinds.{Rules, CrossingLaw}
 use Rattle.rules.specs.declared.lines.Line.{Line}
 use Rattle.rules.specs.declared.calls.Call.{Call}
@@ -25,11 +24,11 @@ use Rattle.rules.specs.Refusals.{number-of, holder-of}
 use Rattle.rules.specs.Entries.{stands, childless, Elder, elders, is-among, is-own-or-elder}
 use Rattle.rules.specs.Cells.{value-at}
 use Rattle.rules.specs.States.{State}
-use Rattle.rules.specs.Calls.{Answer, Outcome, some-line, earliest-holder, seen, stops-posting, stops-publishing, ask, ask-holder, first-no, further-questions, questions, turned-away, at-value, taken, unless-refused, step, posted-state}
-use Rattle.rules.specs.TurnedAway.{Among, Earliest, In-the-way, Held-back, Answers-rightly, Refusal-law}
-use Rattle.rules.proofs.Holdings.{not-by, not-so, false-by}
+use Rattle.rules.specs.Calls.{Answer, Outcome, some-line, earliest-holder, seen, stops-posting, stops-publishing, ask, ask-holder, first-no, further-questions, questions, at-value, taken, unless-refused, step}
+use Rattle.rules.specs.TurnedAway.{Among, Earliest, In-the-way, Held-back, Refusal-law}
+use Rattle.rules.proofs.Bools.{not-by}
 use Rattle.rules.proofs.Bare.{some-not-none}
-use Rattle.rules.proofs.Upheld.{ask-yes, ask-holder-yes, All-yes}
+use Rattle.rules.proofs.Upheld.{ask-holder-yes, All-yes}
 use Rattle.rules.proofs.Law.{fair-copy-law}
 
 -- ---- answers

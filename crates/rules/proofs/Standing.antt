@@ -1,18 +1,20 @@
 -- What stays true of rows, of a table of lines with their answers, of copies, and of what a fair copy comes to.
-use mathlib.Core.Path.{_≡_, refl, sym, ap, subst, _∙_}
-use mathlib.Core.List.{List, [], _∷_}
+use mathlib.Core.Path.{_≡_, ap, subst, _∙_}
+use mathlib.Core.List.{List, _∷_}
 use mathlib.Core.Bool.{Bool, true, _&&_}
 use mathlib.Core.Logic.{_⊎_, inl, inr}
 use Prim.Native.Nat.{ℕ}
 use lib.Dec.{eqb}
 use Rattle.std.specs.shelf.Lists.{All, kept-by, folded}
 use Rattle.std.proofs.shelf.Tests.{eqb-true}
-use Rattle.std.proofs.shelf.Elements.{all-weaker}
+use Rattle.std.proofs.shelf.Elements.{all-weaker, all-kept-by}
 use Rattle.rules.specs.declared.rows.Row.{Row}
 use Rattle.rules.specs.Entries.{stands, is-among, is-own-or-elder}
 use Rattle.rules.specs.FairCopy.{Each-in-turn}
 use Rattle.rules.proofs.Exchanges.{Same}
-use Rattle.rules.proofs.Holdings.{Held, held, Pairs, pairs-weaker, all-kept, pairs-kept, all-passed, held-agree, held-kept, held-all, and-implied}
+use Rattle.rules.proofs.Bools.{and-implied}
+use Rattle.rules.proofs.Pairs.{Pairs, pairs-weaker, pairs-kept, all-passed}
+use Rattle.rules.proofs.Holdings.{Held, held, held-agree, held-kept, held-all}
 use Rattle.rules.proofs.Kinship.{Grown, Closed, rest, grown-rest, stands-rest, elders-rest}
 
 -- does e hold it?
@@ -57,7 +59,7 @@ module _ {X : Type 0} {Okx : X → Type 0} {Cr : X → X → Type 0} {rows : Lis
       grown = grown-rest k rows (fr .grown) closed;
       holders = all-passed (λ g. stands (rest k rows) (g .holder) ≡ true) (λ g. k (g .holder)) table
           (all-weaker (λ g. stands rows (g .holder) ≡ true) (λ g. k (g .holder) ≡ true → stands (rest k rows) (g .holder) ≡ true) (λ g s h. stands-rest k rows (g .holder) s h) table (fr .holders));
-      items-ok = all-kept (λ g. Okx (g .item)) (λ g. k (g .holder)) table (fr .items-ok);
+      items-ok = all-kept-by (λ g. k (g .holder)) (λ g. Okx (g .item)) table (fr .items-ok);
       order = pairs-weaker (λ g. k (g .holder) ≡ true) (Ordered Cr rows) (Ordered Cr (rest k rows))
           (λ g m kg km o. elim o [ inl c ↦ inl c | inr h ↦ inr (kin-rest (m .holder) km (g .holder) ∙ h) ])
           (left-of k table)

@@ -7,7 +7,7 @@ use Prim.Native.Nat.{ℕ, _<_, _+_}
 use native.Mathlib.Omega.{arith}
 use lib.Dec.{eqb}
 use Rattle.std.specs.shelf.Lists.{All, kept-by, folded}
-use Rattle.std.specs.declared.option.Option.the-variants.{Some, None}
+use Rattle.std.specs.declared.option.Option.the-variants.{None}
 use Rattle.std.proofs.shelf.Tests.{eqb-true, eqb-false, eq-eqb, ne-eqb, or-cases, cases-eq, and-cases, not-false}
 use Rattle.std.proofs.shelf.Elements.{all-weaker}
 use Rattle.std.proofs.shelf.Lists.{map-push}
@@ -18,7 +18,7 @@ use Rattle.rules.specs.declared.lines.Line.{Line}
 use Rattle.rules.specs.declared.calls.Call.{Call}
 use Rattle.rules.specs.declared.calls.Call.the-variants.{Begin, Post, Keep, Publish, Abandon, Value}
 use Rattle.rules.specs.declared.refusals.Refusal.{Refusal}
-use Rattle.rules.specs.declared.refusals.Refusal.the-variants.{Unsound, NotStanding, HasChild, UnlawfulPosting, InTheWay, HeldByElder}
+use Rattle.rules.specs.declared.refusals.Refusal.the-variants.{NotStanding, HasChild, UnlawfulPosting, InTheWay, HeldByElder}
 use Rattle.rules.specs.Entries.{stands, childless, parent-of, elders, is-among, is-own-or-elder, without, outside}
 use Rattle.rules.specs.Cells.{value-at, of-value}
 use Rattle.rules.specs.States.{State}
@@ -26,8 +26,8 @@ use Rattle.rules.specs.Calls.{Outcome, seen, commit, held-by, not-held-by, pas
 use Rattle.rules.specs.Books.{Copied, Copy, then-line, then-block, lines-of, Book, rows-of, copy-of, with-begun, with-line, with-fair-block, with-block, with-abandoned, write}
 use Rattle.rules.specs.FairCopy.{post-line, Gets-its-answer}
 use Rattle.rules.proofs.Holdings.{Held, held, renamed}
-use Rattle.rules.proofs.Kinship.{Grown, rest, stood, stands-rest, joined-cases, elders-top, elders-inner, no-child}
-use Rattle.rules.proofs.Standing.{Core, own, left-of, other-copies}
+use Rattle.rules.proofs.Kinship.{Grown, stood, stands-rest, joined-cases, elders-top, elders-inner, no-child}
+use Rattle.rules.proofs.Standing.{Core, left-of, other-copies}
 use Rattle.rules.proofs.Beginning.{began}
 use Rattle.rules.proofs.Posting.{posted}
 use Rattle.rules.proofs.Committing.{committed, others, not-other, Out}

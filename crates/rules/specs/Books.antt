@@ -10,7 +10,6 @@ use Rattle.std.specs.declared.result.Result.the-variants.{Ok, Err}
 use Rattle.rules.specs.declared.rows.Row.{Row}
 use Rattle.rules.specs.declared.calls.Call.{Call}
 use Rattle.rules.specs.declared.calls.Call.the-variants.{Begin, Post, Keep, Publish, Abandon, Value}
-use Rattle.rules.specs.declared.calls.Reply.{Reply}
 use Rattle.rules.specs.declared.calls.Reply.the-variants as reply
 use Rattle.rules.specs.Entries.{parent-of, is-own-or-elder}
 use Rattle.rules.specs.Calls.{Answer}

@@ -6,3 +6,4 @@ pub mod Calls
 pub mod Books
 pub mod FairCopy
 pub mod TurnedAway
+pub mod Cases

@@ -1,14 +1,14 @@
 -- What a call that is turned away is told, in the words of the questions. Assumes nothing.
 use mathlib.Core.Path.{_≡_}
-use mathlib.Core.List.{List, [], _∷_, _++_}
-use mathlib.Core.Bool.{Bool, true, false}
+use mathlib.Core.List.{List, _∷_, _++_}
+use mathlib.Core.Bool.{false}
 use Prim.Native.Nat.{ℕ}
 use Rattle.std.specs.shelf.Lists.{All}
 use Rattle.std.specs.declared.result.Result.the-variants.{Ok, Err}
 use Rattle.cells.specs.Kinds.{Rules}
 use Rattle.rules.specs.declared.lines.Line.{Line}
 use Rattle.rules.specs.declared.calls.Call.{Call}
-use Rattle.rules.specs.declared.calls.Call.the-variants.{Begin, Post, Keep, Publish, Abandon, Value}
+use Rattle.rules.specs.declared.calls.Call.the-variants.{Post, Publish}
 use Rattle.rules.specs.declared.calls.Reply.{Reply}
 use Rattle.rules.specs.declared.refusals.Refusal.{Refusal}
 use Rattle.rules.specs.Refusals.{number-of, holder-of}

@@ -2,6 +2,7 @@
 // law of that copy. The records that the rules speak of are declared here, so that the code of the
 // calls and the statements about it use the same ones.
 pub mod calls;
+pub mod cases;
 pub mod laws;
 pub mod lines;
 pub mod refusals;
