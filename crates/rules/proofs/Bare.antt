@@ -23,9 +23,22 @@ Is-some (Some x) = Unit {0}
 pub some-not-none : {X : Type 0} (x : X) → Some x ≡ None → ⊥
 some-not-none x h = subst Is-some h tt
 
+-- ---- no line passes a test
+
 none-cond : (b : Bool) (h : ℕ) (o : Option ℕ) → cond b (Some h) o ≡ None → (b ≡ false) × (o ≡ None)
 none-cond true h o e = absurd (some-not-none h e)
 none-cond false h o e = (refl, e)
+
+module _ {P : Type 0} (test : Line P → Bool) where
+  pub none-earliest : (ls : List (Line P)) → earliest-holder test ls ≡ None → All (λ l. test l ≡ false) ls
+  none-earliest [] e = tt
+  none-earliest (l ∷ ls) e = let es = none-cond (test l) (l .holder) (earliest-holder test ls) e in (es .0, none-earliest ls (es .1))
+
+  pub none-some : (ls : List (Line P)) → some-line test ls ≡ false → All (λ l. test l ≡ false) ls
+  none-some [] e = tt
+  none-some (l ∷ ls) e = let es = or-parts (test l) (some-line test ls) e in (es .0, none-some ls (es .1))
+
+-- ---- lines without their answers
 
 module _ {P O : Type 0} where
   kept-cond : (b : Bool) (g : Held (Copied P O)) (ls : List (Line P)) (gs : List (Held (Copied P O))) → ls ≡ map bare gs → cond b (bare g ∷ ls) ls ≡ map bare (cond b (g ∷ gs) gs)
@@ -40,11 +53,6 @@ module _ {P O : Type 0} where
   passed-bare e q [] = refl
   passed-bare e q (g ∷ gs) = ap (λ w. bare (record { holder = heir e q (g .holder); item = g .item }) ∷ w) (passed-bare e q gs)
 
-  -- no line passes a test
-  pub none-earliest : (test : Line P → Bool) (gs : List (Held (Copied P O))) → earliest-holder test (map bare gs) ≡ None → All (λ g. test (bare g) ≡ false) gs
-  none-earliest test [] e = tt
-  none-earliest test (g ∷ gs) e = let es = none-cond (test (bare g)) (g .holder) (earliest-holder test (map bare gs)) e in (es .0, none-earliest test gs (es .1))
-
-  pub none-some : (test : Line P → Bool) (gs : List (Held (Copied P O))) → some-line test (map bare gs) ≡ false → All (λ g. test (bare g) ≡ false) gs
-  none-some test [] e = tt
-  none-some test (g ∷ gs) e = let es = or-parts (test (bare g)) (some-line test (map bare gs)) e in (es .0, none-some test gs (es .1))
+  pub all-bare : (Q : Line P → Type 0) (gs : List (Held (Copied P O))) → All Q (map bare gs) → All (λ g. Q (bare g)) gs
+  all-bare Q [] a = tt
+  all-bare Q (g ∷ gs) a = (a .0, all-bare Q gs (a .1))

@@ -13,6 +13,7 @@ use Rattle.std.specs.declared.option.Option.{Option}
 use Rattle.std.specs.declared.option.Option.the-variants.{Some, None}
 use Rattle.std.specs.declared.result.Result.the-variants.{Ok, Err}
 use Rattle.std.proofs.shelf.Tests.{eqb-true, eq-eqb, and-parts, and-from, or-cases, or-left, or-right, not-true}
+use Rattle.std.proofs.shelf.Elements.{all-weaker}
 use Rattle.cells.specs.Kinds.{Rules, CrossingLaw}
 use Rattle.rules.specs.declared.lines.Line.{Line}
 use Rattle.rules.specs.declared.calls.Call.{Call}
@@ -27,7 +28,7 @@ use Rattle.rules.specs.States.{State}
 use Rattle.rules.specs.Calls.{Answer, Outcome, some-line, earliest-holder, seen, stops-posting, stops-publishing, ask, ask-holder, first-no, further-questions, questions, at-value, taken, unless-refused, step}
 use Rattle.rules.specs.TurnedAway.{Among, Earliest, In-the-way, Held-back, Refusal-law}
 use Rattle.rules.proofs.Bools.{not-by}
-use Rattle.rules.proofs.Bare.{some-not-none}
+use Rattle.rules.proofs.Bare.{some-not-none, none-earliest}
 use Rattle.rules.proofs.Upheld.{ask-holder-yes, All-yes}
 use Rattle.rules.proofs.Law.{fair-copy-law}
 
@@ -139,13 +140,8 @@ module _ {P : Type 0} where
     earliest-is [] h e = absurd (some-not-none h (sym e))
     earliest-is (l ∷ ls) h e = earliest-cond (test l) l ls h refl (earliest-is ls h) e
 
-    none-cond : (b : Bool) (l : Line P) (ls : List (Line P)) → test l ≡ b → (earliest-holder test ls ≡ None → All (λ m. Q m → ⊥) ls) → cond b (Some (l .holder)) (earliest-holder test ls) ≡ None → All (λ m. Q m → ⊥) (l ∷ ls)
-    none-cond true l ls t later e = absurd (some-not-none (l .holder) e)
-    none-cond false l ls t later e = (λ q. false≢true (sym t ∙ decides l .1 q), later e)
-
-    none-is : (ls : List (Line P)) → earliest-holder test ls ≡ None → All (λ m. Q m → ⊥) ls
-    none-is [] e = tt
-    none-is (l ∷ ls) e = none-cond (test l) l ls refl (none-is ls) e
+    none-is : (ls : List (Line P)) → earliest-holder test ls ≡ None → All (λ l. Q l → ⊥) ls
+    none-is ls e = all-weaker (λ l. test l ≡ false) (λ l. Q l → ⊥) (λ l t q. false≢true (sym t ∙ decides l .1 q)) ls (none-earliest test ls e)
 
 -- ---- questions 6 and 7
 

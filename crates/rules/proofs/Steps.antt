@@ -34,7 +34,7 @@ use Rattle.rules.proofs.Committing.{committed, others, not-other, Out}
 use Rattle.rules.proofs.Passing.{passed, heir}
 use Rattle.rules.proofs.Abandoning.{abandoned}
 use Rattle.rules.proofs.Stores.{Lawful-values, Lawful-line, Crosses, laws, bare, commit-is, seen-is}
-use Rattle.rules.proofs.Bare.{kept-bare, passed-bare, none-earliest, none-some}
+use Rattle.rules.proofs.Bare.{kept-bare, passed-bare, all-bare, none-earliest, none-some}
 use Rattle.rules.proofs.Pages.{copy-none, rows-pushed, copy-pushed, rows-written, copy-written, copy-unwritten, left-pages, rows-left, copy-left}
 use Rattle.rules.proofs.Upheld.{Upheld, lines-at, All-yes, ask-yes, ask-holder-yes, asked, valued, unwritten}
 
@@ -51,6 +51,10 @@ module _ {V P O : Type 0} (R : Rules V P O) (law : CrossingLaw R) (first : List 
   -- who stands in the register stands in the book
   in-book : (e : ℕ) → stands (s .rows) e ≡ true → stands (rows-of (b .pages)) e ≡ true
   in-book e st = subst (λ rs. stands rs e ≡ true) (sym (up .rows-are)) st
+
+  -- what holds of the register's lines holds of those of the table
+  in-table : (Q : Line P → Type 0) → All Q (s .lines) → All (λ g. Q (bare g)) (up .table)
+  in-table Q a = all-bare Q (up .table) (subst (All Q) (up .lines-are) a)
 
   turned : (call : Call P) (refusal : Refusal) → Good call (turned-away s refusal)
   turned call refusal = subst (Upheld R first s) (sym (unwritten V b call refusal)) up
@@ -94,7 +98,7 @@ module _ {V P O : Type 0} (R : Rules V P O) (law : CrossingLaw R) (first : List 
       ]
       ))
       (up .table)
-      (none-earliest (stops-posting R s e c p) (up .table) (subst (λ ls. earliest-holder (stops-posting R s e c p) ls ≡ None) (up .lines-are) none))
+      (in-table (λ l. stops-posting R s e c p l ≡ false) (none-earliest (stops-posting R s e c p) (s .lines) none))
 
   -- the seen value is that of the cell after all that the entry sees
   pub seen-at : (e c : ℕ) → value-at (folded (post-line R) (s .values) (held (is-own-or-elder (s .rows) e) (up .table))) c ≡ seen R s e c
@@ -159,11 +163,11 @@ module _ {V P O : Type 0} (R : Rules V P O) (law : CrossingLaw R) (first : List 
                 | inr cr ↦ inr (not-false (R .crosses (m .item .posting) (g .item .posting)) cr)
               ]
             ])
-            (up .table) (none-some clashes (up .table) (subst (λ ls. some-line clashes ls ≡ false) (up .lines-are) o))
+            (up .table) (in-table (λ l. clashes l ≡ false) (none-some clashes (s .lines) o))
       ]
       ))
       (up .table)
-      (none-earliest (stops-publishing R s e) (up .table) (subst (λ ls. earliest-holder (stops-publishing R s e) ls ≡ None) (up .lines-are) none))
+      (in-table (λ m. stops-publishing R s e m ≡ false) (none-earliest (stops-publishing R s e) (s .lines) none))
 
   publish-good : (e : ℕ) → All-yes (further-questions R s (Publish e)) → Good (Publish e) (taken R s (Publish e))
   publish-good e ys =

@@ -41,7 +41,7 @@ module _ {P : Type 0} where
   abbrev pub not-held-by : ℕ → List (Line P) → List (Line P)
   not-held-by e ls = kept-by (λ l. not (eqb (l .holder) e)) ls
 
-  -- what e holds passes to its heir q, each line in its place
+  -- what e holds passes to q, each line in its place
   abbrev pub pass-on : ℕ → ℕ → List (Line P) → List (Line P)
   pass-on e q ls = map (λ l. record { holder = cond (eqb (l .holder) e) q (l .holder); cell = l .cell; posting = l .posting }) ls
 

@@ -5,6 +5,7 @@ use mathlib.Core.List.{List, [], _∷_, map}
 use Prim.Native.Nat.{ℕ}
 use lib.IntN.{ℤ, pos, negℤ}
 use lib.ListN.{replicate}
+use Rattle.std.specs.declared.option.Option.the-variants.{Some}
 use Rattle.std.specs.declared.result.Result.the-variants.{Ok, Err}
 use Rattle.cells.specs.Kinds.{Rules}
 use Rattle.cells.specs.Levels.{level-rules}
@@ -25,8 +26,10 @@ use Rattle.rules.specs.declared.refusals.Refusal.{Refusal}
 use Rattle.rules.specs.declared.refusals.Refusal.the-variants.{Unsound, NotStanding, HasChild, NoSuchCell, UnlawfulPosting, InTheWay, HeldByElder, NoFreeRow, NoFreeLine, NoNumberLeft}
 use Rattle.rules.specs.Refusals.{number-of, holder-of}
 use Rattle.rules.specs.States.{State, set-up}
+use Rattle.rules.specs.Calls as calls
 use Rattle.rules.specs.Calls.{Answer, step}
-use Rattle.rules.specs.FairCopy.{Event}
+use Rattle.rules.specs.Books.{Copied, empty, then-line, then-block}
+use Rattle.rules.specs.FairCopy.{Event, book-of}
 
 -- ---- what calls come to
 
@@ -114,6 +117,10 @@ value n = Ok (reply.Value (pos n))
 -- to a call that is turned away: the question that said no
 abbrev turned : Refusal → Number-answer
 turned refusal = Err refusal
+
+-- a line of a copy that was answered only that it is done
+abbrev line : {P : Type 0} → ℕ → P → Copied P (cells.Answer ℤ)
+line c p = record { cell = c; posting = p; answer = Done }
 
 -- every call is turned away as unsound, whatever is posted
 abbrev all-turned : {P : Type 0} → P → List (Event ℤ P (cells.Answer ℤ))
@@ -226,6 +233,15 @@ pub record Worked-cases : Type 0 where
       ∷ Post 1 0 (set 250) gets posted
       ∷ Post 1 1 level.Look gets seen 0
       ∷ []) (two-cells 0 0)
+  -- an entry does not see what a stranger posted, though it crosses
+  pub sees-not-what-strangers-add :
+      map (λ e. calls.seen total-rules
+      (state-after total-rules (set-up total-rules (one-cell 0) 4 8)
+      (Begin 0 ∷ Begin 0
+      ∷ Post 1 0 (add 3)
+      ∷ Post 2 0 (add 4)
+      ∷ [])) e 0) (1 ∷ 2 ∷ [])
+      ≡ Some (pos 3) ∷ Some (pos 4) ∷ []
   -- ---- keep, publish and abandon
   -- a keep stores all lines of the entry, in posting order
   pub keep-stores-every-line :
@@ -457,6 +473,40 @@ pub record Worked-cases : Type 0 where
       ∷ Post 3 0 (add 4) gets turned (InTheWay 1)
       ∷ Post 3 0 total.Look gets turned NoFreeLine
       ∷ []) (one-cell 0)
+  -- ---- the fair copy
+  -- a kept child is one block, at the place in its parent's copy where it was kept
+  pub kept-child-is-a-block :
+      book-of
+      (Begin 0 gets entry 1
+      ∷ Post 1 0 (add 3) gets posted
+      ∷ Begin 1 gets entry 2
+      ∷ Post 2 0 (add 4) gets posted
+      ∷ Keep 2 gets done
+      ∷ Post 1 0 (add 5) gets posted
+      ∷ Keep 1 gets done
+      ∷ []) .fair
+      ≡ then-block empty 1 (then-line (then-block (then-line empty (line 0 (add 3))) 2 (then-line empty (line 0 (add 4)))) (line 0 (add 5)))
+  -- what was published from inside is a block of its own, before its parent's; calls turned away leave no trace
+  pub published-child-is-apart :
+      book-of
+      (Begin 0 gets entry 1
+      ∷ Post 1 0 (add 3) gets posted
+      ∷ Begin 1 gets entry 2
+      ∷ Post 2 0 (add 4) gets posted
+      ∷ Keep 1 gets turned HasChild
+      ∷ Publish 2 gets done
+      ∷ Keep 1 gets done
+      ∷ []) .fair
+      ≡ then-block (then-block empty 2 (then-line empty (line 0 (add 4)))) 1 (then-line empty (line 0 (add 3)))
+  -- what was abandoned is nowhere in the book
+  pub abandoned-is-dropped :
+      book-of
+      (Begin 0 gets entry 1 ∷ Begin 1 gets entry 2 ∷ Begin 2 gets entry 3
+      ∷ Post 3 0 (add 3) gets posted
+      ∷ Keep 3 gets done
+      ∷ Begin 2 gets entry 4
+      ∷ Abandon 1 gets done
+      ∷ []) ≡ record { fair = empty; pages = [] }
   -- ---- tables out of their sizes and unlawful first values, where every call is turned away
   -- no cell
   pub no-cells : Case level-rules [] (all-turned level.Look) []

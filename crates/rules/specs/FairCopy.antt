@@ -78,28 +78,28 @@ module _ {P O : Type 0} where
   copy-of-blocks blocks = folded (λ copy block. then-block copy (block .entry) (block .copy)) empty blocks
 
   abbrev pub block-if : Bool → Book P O → ℕ → List (Block P O)
-  block-if settled b e = cond settled (record { entry = e; copy = copy-of (b .pages) e } ∷ []) []
+  block-if stored b e = cond stored (record { entry = e; copy = copy-of (b .pages) e } ∷ []) []
 
 module _ {V P O : Type 0} where
-  -- the block that a call settles, by keeping a top entry or publishing any: the entry's copy as the call finds it
-  abbrev pub settled-by : State V P → Book P O → Call P → Answer V O → List (Block P O)
-  settled-by s b (Begin q) answer = []
-  settled-by s b (Post e c p) answer = []
-  settled-by s b (Keep e) answer = block-if (is-done answer && eqb (parent-of (s .rows) e) 0) b e
-  settled-by s b (Publish e) answer = block-if (is-done answer) b e
-  settled-by s b (Abandon e) answer = []
-  settled-by s b (Value c) answer = []
+  -- the block that a call stores, by keeping a top entry or publishing any: the entry's copy as the call finds it
+  abbrev pub stored-by : State V P → Book P O → Call P → Answer V O → List (Block P O)
+  stored-by s b (Begin q) answer = []
+  stored-by s b (Post e c p) answer = []
+  stored-by s b (Keep e) answer = block-if (is-done answer && eqb (parent-of (s .rows) e) 0) b e
+  stored-by s b (Publish e) answer = block-if (is-done answer) b e
+  stored-by s b (Abandon e) answer = []
+  stored-by s b (Value c) answer = []
 
--- the blocks that a history settles, in the order of keeping and publishing, from a state and a book on
-abbrev pub blocks-settled : {V P O : Type 0} → Rules V P O → State V P → Book P O → List (Event V P O) → List (Block P O)
-blocks-settled R s b [] = []
-blocks-settled R s b (x ∷ history) =
-    settled-by s b (x .call) (x .answer)
-    ++ blocks-settled R (step R s (x .call) .state) (write b (x .call) (x .answer)) history
+-- the blocks that a history stores, in the order of keeping and publishing, from a state and a book on
+abbrev pub blocks-stored : {V P O : Type 0} → Rules V P O → State V P → Book P O → List (Event V P O) → List (Block P O)
+blocks-stored R s b [] = []
+blocks-stored R s b (x ∷ history) =
+    stored-by s b (x .call) (x .answer)
+    ++ blocks-stored R (step R s (x .call) .state) (write b (x .call) (x .answer)) history
 
 -- ---- the law
 
--- Of a register with these first values, which holds s now, the book of its history, and the blocks that the history settled.
+-- Of a register with these first values, which holds s now, the book of its history, and the blocks that the history stored.
 pub record Fair-copy-holds {V P O : Type 0} (R : Rules V P O) (first : List V) (s : State V P) (b : Book P O) (blocks : List (Block P O)) : Type 0 where
   -- the fair copy, posted line by line on the first values, gives each line the answer that the register gave
   pub fair-answers : Get-their-answers R first (lines-of (b .fair))
@@ -122,4 +122,4 @@ abbrev pub Fair-copy-law : {V P O : Type 0} → Rules V P O → Type 0
 Fair-copy-law {V} {P} {O} R =
     (first : List V) (row-room line-room : ℕ) (history : List (Event V P O)) (s : State V P)
     → Leads R (set-up R first row-room line-room) history s
-    → Fair-copy-holds R first s (book-of history) (blocks-settled R (set-up R first row-room line-room) new-book history)
+    → Fair-copy-holds R first s (book-of history) (blocks-stored R (set-up R first row-room line-room) new-book history)

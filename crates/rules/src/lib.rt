@@ -7,3 +7,5 @@ pub mod laws;
 pub mod lines;
 pub mod refusals;
 pub mod rows;
+#[cfg(test)]
+mod tests;
