@@ -20,7 +20,7 @@ use Rattle.rules.specs.Cells.{value-at}
 use Rattle.rules.specs.States.{State, set-up, within, all-lawful, sound-for}
 use Rattle.rules.specs.Calls.{Answer, seen, ask, first-no, further-questions, turned-away, taken, unless-refused, step}
 use Rattle.rules.specs.Books.{Copy, then-block, lines-of, Book, new-book, rows-of, begun-number, posting-answer, is-done, if-any, with-begun, with-line, with-fair-block, with-block, with-abandoned, write}
-use Rattle.rules.specs.FairCopy.{Event, book-of, Leads, post-line, Get-their-answers, values-after, lines-down, lines-so-far, Block, block-if, stored-by, blocks-stored, Fair-copy-holds, Fair-copy-law}
+use Rattle.rules.specs.FairCopy.{Event, book-of, Leads, post-line, Get-their-answers, values-after, lines-down, lines-so-far, Block, block-if, added-by, blocks-added, Fair-copy-holds, Fair-copy-law}
 use Rattle.rules.proofs.Exchanges.{folded-append, right-append}
 use Rattle.rules.proofs.Kinship.{Grown, elders-are}
 use Rattle.rules.proofs.Descending.{downward, so-far-right, so-far-end}
@@ -51,8 +51,8 @@ module _ {P O : Type 0} where
   keep-fair true false b e q = refl
   keep-fair false top b e q = refl
 
--- a call adds to the fair copy just the block that it stores
-one-more : {V P O : Type 0} (s : State V P) (b : Book P O) → rows-of (b .pages) ≡ s .rows → (call : Call P) (answer : Answer V O) → write b call answer .fair ≡ with-blocks (b .fair) (stored-by s b call answer)
+-- what a call writes into the fair copy is just the block that it adds
+one-more : {V P O : Type 0} (s : State V P) (b : Book P O) → rows-of (b .pages) ≡ s .rows → (call : Call P) (answer : Answer V O) → write b call answer .fair ≡ with-blocks (b .fair) (added-by s b call answer)
 one-more s b same (Begin q) answer = if-any-fair (begun-number answer) (λ n. with-begun b n q) b (λ n. refl)
 one-more s b same (Post e c p) answer = if-any-fair (posting-answer answer) (λ a. with-line b e (record { cell = c; posting = p; answer = a })) b (λ a. refl)
 one-more s b same (Keep e) answer =
@@ -70,7 +70,7 @@ written b history = folded (λ c x. write c (x .call) (x .answer)) b history
 module _ {V P O : Type 0} (R : Rules V P O) where
   -- a register that is not sound turns every call away
   shut : (history : List (Event V P O)) (s t : State V P) (b : Book P O) → s .sound ≡ false → rows-of (b .pages) ≡ s .rows → Leads R s history t
-      → (s ≡ t) × (written b history ≡ b) × (blocks-stored R s b history ≡ [])
+      → (s ≡ t) × (written b history ≡ b) × (blocks-added R s b history ≡ [])
   shut [] s t b un same leads = (leads, refl, refl)
   shut (x ∷ history) s t b un same leads =
       let away : step R s (x .call) ≡ turned-away s Unsound = ap (λ y. unless-refused R s (first-no (ask y Unsound ∷ further-questions R s (x .call))) (taken R s (x .call))) un in
@@ -79,20 +79,20 @@ module _ {V P O : Type 0} (R : Rules V P O) where
       let on = shut history s t b un same (subst (λ o. Leads R (o .state) history t) away (leads .1)) in (
         on .0,
         ap (λ c. written c history) stays ∙ on .1,
-        ap (λ answer. stored-by s b (x .call) answer ++ blocks-stored R (step R s (x .call) .state) (write b (x .call) (x .answer)) history) refused
-            ∙ ap (λ blocks. blocks ++ blocks-stored R (step R s (x .call) .state) (write b (x .call) (x .answer)) history) (unstored s b (x .call))
-            ∙ ap (λ o. blocks-stored R (o .state) (write b (x .call) (x .answer)) history) away
-            ∙ ap (λ c. blocks-stored R s c history) stays
+        ap (λ answer. added-by s b (x .call) answer ++ blocks-added R (step R s (x .call) .state) (write b (x .call) (x .answer)) history) refused
+            ∙ ap (λ blocks. blocks ++ blocks-added R (step R s (x .call) .state) (write b (x .call) (x .answer)) history) (unadded s b (x .call))
+            ∙ ap (λ o. blocks-added R (o .state) (write b (x .call) (x .answer)) history) away
+            ∙ ap (λ c. blocks-added R s c history) stays
             ∙ on .2,
       )
     where
-      unstored : (s : State V P) (b : Book P O) (call : Call P) → stored-by {V = V} s b call (Err Unsound) ≡ []
-      unstored s b (Begin q) = refl
-      unstored s b (Post e c p) = refl
-      unstored s b (Keep e) = refl
-      unstored s b (Publish e) = refl
-      unstored s b (Abandon e) = refl
-      unstored s b (Value c) = refl
+      unadded : (s : State V P) (b : Book P O) (call : Call P) → added-by {V = V} s b call (Err Unsound) ≡ []
+      unadded s b (Begin q) = refl
+      unadded s b (Post e c p) = refl
+      unadded s b (Keep e) = refl
+      unadded s b (Publish e) = refl
+      unadded s b (Abandon e) = refl
+      unadded s b (Value c) = refl
 
 module _ {V P O : Type 0} (R : Rules V P O) (law : CrossingLaw R) (first : List V) where
   -- a step is the event that the history names
@@ -103,14 +103,14 @@ module _ {V P O : Type 0} (R : Rules V P O) (law : CrossingLaw R) (first : List 
   led [] s t b up leads = subst (λ u. Upheld R first u b) leads up
   led (x ∷ history) s t b up leads = led history (step R s (x .call) .state) t (write b (x .call) (x .answer)) (upheld-by s b x up (leads .0)) (leads .1)
 
-  fair-blocks : (history : List (Event V P O)) (s t : State V P) (b : Book P O) → Upheld R first s b → Leads R s history t → written b history .fair ≡ with-blocks (b .fair) (blocks-stored R s b history)
+  fair-blocks : (history : List (Event V P O)) (s t : State V P) (b : Book P O) → Upheld R first s b → Leads R s history t → written b history .fair ≡ with-blocks (b .fair) (blocks-added R s b history)
   fair-blocks [] s t b up leads = refl
   fair-blocks (x ∷ history) s t b up leads =
       let u = step R s (x .call) .state in
       let c = write b (x .call) (x .answer) in
       fair-blocks history u t c (upheld-by s b x up (leads .0)) (leads .1)
-      ∙ ap (λ copy. with-blocks copy (blocks-stored R u c history)) (one-more s b (up .rows-are) (x .call) (x .answer))
-      ∙ sym (folded-append (λ copy block. then-block copy (block .entry) (block .copy)) (b .fair) (stored-by s b (x .call) (x .answer)) (blocks-stored R u c history))
+      ∙ ap (λ copy. with-blocks copy (blocks-added R u c history)) (one-more s b (up .rows-are) (x .call) (x .answer))
+      ∙ sym (folded-append (λ copy block. then-block copy (block .entry) (block .copy)) (b .fair) (added-by s b (x .call) (x .answer)) (blocks-added R u c history))
 
 -- ---- set-up
 

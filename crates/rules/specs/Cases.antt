@@ -28,8 +28,8 @@ use Rattle.rules.specs.Refusals.{number-of, holder-of}
 use Rattle.rules.specs.States.{State, set-up}
 use Rattle.rules.specs.Calls as calls
 use Rattle.rules.specs.Calls.{Answer, step}
-use Rattle.rules.specs.Books.{Copied, empty, then-line, then-block}
-use Rattle.rules.specs.FairCopy.{Event, book-of}
+use Rattle.rules.specs.Books.{Copied, empty, then-line, then-block, lines-of}
+use Rattle.rules.specs.FairCopy.{Event, book-of, Get-their-answers, values-after}
 
 -- ---- what calls come to
 
@@ -121,6 +121,20 @@ turned refusal = Err refusal
 -- a line of a copy that was answered only that it is done
 abbrev line : {P : Type 0} → ℕ → P → Copied P (cells.Answer ℤ)
 line c p = record { cell = c; posting = p; answer = Done }
+
+-- A child sets another cell than its parent did and is published; another child looks at what the parent set and is kept.
+abbrev example : List (Event ℤ LevelPosting (cells.Answer ℤ))
+example =
+    Begin 0 gets entry 1
+    ∷ Post 1 0 (set 5) gets posted
+    ∷ Begin 1 gets entry 2
+    ∷ Post 2 1 (set 60) gets posted
+    ∷ Publish 2 gets done
+    ∷ Begin 1 gets entry 3
+    ∷ Post 3 0 level.Look gets seen 5
+    ∷ Keep 3 gets done
+    ∷ Keep 1 gets done
+    ∷ []
 
 -- every call is turned away as unsound, whatever is posted
 abbrev all-turned : {P : Type 0} → P → List (Event ℤ P (cells.Answer ℤ))
@@ -474,6 +488,17 @@ pub record Worked-cases : Type 0 where
       ∷ Post 3 0 total.Look gets turned NoFreeLine
       ∷ []) (one-cell 0)
   -- ---- the fair copy
+  -- the example gets its answers from the register, and ends in 5 and 60 ..
+  pub example-answers : Case level-rules (two-cells 0 0) example (two-cells 5 60)
+  -- .. its fair copy has the published child first, and the kept one inside its parent ..
+  pub example-copy :
+      book-of example .fair
+      ≡ then-block (then-block empty 2 (then-line empty (line 1 (set 60)))) 1
+      (then-block (then-line empty (line 0 (set 5))) 3
+      (then-line empty (record { cell = 0; posting = level.Look; answer = Seen (pos 5) })))
+  -- .. and that, posted on the first values, gets the same answers and ends in the same values
+  pub example-posted : Get-their-answers level-rules (two-cells 0 0) (lines-of (book-of example .fair))
+  pub example-ends : values-after level-rules (two-cells 0 0) (lines-of (book-of example .fair)) ≡ two-cells 5 60
   -- a kept child is one block, at the place in its parent's copy where it was kept
   pub kept-child-is-a-block :
       book-of

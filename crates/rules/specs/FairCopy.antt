@@ -1,4 +1,4 @@
--- The fair-copy law: what the fair copy of a run of calls is good for. Assumes nothing.
+-- The fair-copy law: which answers and values the fair copy of a run of calls gives. Assumes nothing.
 use mathlib.Core.Path.{_≡_}
 use mathlib.Core.List.{List, [], _∷_, _++_}
 use mathlib.Core.Bool.{Bool, true, cond, _&&_}
@@ -18,7 +18,7 @@ use Rattle.rules.specs.Books.{Copied, Copy, empty, then-block, lines-of, Book,
 
 -- ---- runs of calls
 
--- a call and its answer
+-- A history is a list of events, first to last: a call and the answer that it got.
 pub record Event (V P O : Type 0) : Type 0 where
   pub call : Call P
   pub answer : Answer V O
@@ -34,7 +34,7 @@ Leads R s (x ∷ history) t = (step R s (x .call) .answer ≡ x .answer) × Lead
 
 -- ---- copies posted on values
 
--- things taken in turn, each of them right where it is taken
+-- items taken in turn from a state on: `Right` holds of each at the state that it finds, and `after` gives the state that it leaves
 abbrev pub Each-in-turn : {S X : Type 0} → (S → X → S) → (S → X → Type 0) → S → List X → Type 0
 Each-in-turn after Right s [] = Unit {0}
 Each-in-turn after Right s (x ∷ xs) = Right s x × Each-in-turn after Right (after s x) xs
@@ -78,28 +78,29 @@ module _ {P O : Type 0} where
   copy-of-blocks blocks = folded (λ copy block. then-block copy (block .entry) (block .copy)) empty blocks
 
   abbrev pub block-if : Bool → Book P O → ℕ → List (Block P O)
-  block-if stored b e = cond stored (record { entry = e; copy = copy-of (b .pages) e } ∷ []) []
+  block-if added b e = cond added (record { entry = e; copy = copy-of (b .pages) e } ∷ []) []
 
 module _ {V P O : Type 0} where
-  -- the block that a call stores, by keeping a top entry or publishing any: the entry's copy as the call finds it
-  abbrev pub stored-by : State V P → Book P O → Call P → Answer V O → List (Block P O)
-  stored-by s b (Begin q) answer = []
-  stored-by s b (Post e c p) answer = []
-  stored-by s b (Keep e) answer = block-if (is-done answer && eqb (parent-of (s .rows) e) 0) b e
-  stored-by s b (Publish e) answer = block-if (is-done answer) b e
-  stored-by s b (Abandon e) answer = []
-  stored-by s b (Value c) answer = []
+  -- the block that a call adds to the fair copy, by keeping a top entry or publishing any entry: the entry's copy as the call finds it
+  abbrev pub added-by : State V P → Book P O → Call P → Answer V O → List (Block P O)
+  added-by s b (Begin q) answer = []
+  added-by s b (Post e c p) answer = []
+  added-by s b (Keep e) answer = block-if (is-done answer && eqb (parent-of (s .rows) e) 0) b e
+  added-by s b (Publish e) answer = block-if (is-done answer) b e
+  added-by s b (Abandon e) answer = []
+  added-by s b (Value c) answer = []
 
--- the blocks that a history stores, in the order of keeping and publishing, from a state and a book on
-abbrev pub blocks-stored : {V P O : Type 0} → Rules V P O → State V P → Book P O → List (Event V P O) → List (Block P O)
-blocks-stored R s b [] = []
-blocks-stored R s b (x ∷ history) =
-    stored-by s b (x .call) (x .answer)
-    ++ blocks-stored R (step R s (x .call) .state) (write b (x .call) (x .answer)) history
+-- the blocks that a history adds, in the order of keeping and publishing, from a state and a book on
+abbrev pub blocks-added : {V P O : Type 0} → Rules V P O → State V P → Book P O → List (Event V P O) → List (Block P O)
+blocks-added R s b [] = []
+blocks-added R s b (x ∷ history) =
+    added-by s b (x .call) (x .answer)
+    ++ blocks-added R (step R s (x .call) .state) (write b (x .call) (x .answer)) history
 
 -- ---- the law
 
--- Of a register with these first values, which holds s now, the book of its history, and the blocks that the history stored.
+-- A register was set up with the values `first` and holds s now; b is the book of its history, and `blocks` are those that the
+-- history added.
 pub record Fair-copy-holds {V P O : Type 0} (R : Rules V P O) (first : List V) (s : State V P) (b : Book P O) (blocks : List (Block P O)) : Type 0 where
   -- the fair copy, posted line by line on the first values, gives each line the answer that the register gave
   pub fair-answers : Get-their-answers R first (lines-of (b .fair))
@@ -112,7 +113,7 @@ pub record Fair-copy-holds {V P O : Type 0} (R : Rules V P O) (first : List V) (
   pub standing-sees : (e c : ℕ) → stands (s .rows) e ≡ true → value-at (values-after R first (lines-of (b .fair) ++ lines-so-far b e)) c ≡ seen R s e c
   -- the book's standing entries and their parents are the register's
   pub same-standing : rows-of (b .pages) ≡ s .rows
-  -- the elders that the rules compute are just the elders
+  -- the list `elders` names exactly those that are elders by the relation `Elder`
   pub elders-are : (e x : ℕ) → Decides (is-among (elders (s .rows) e) x) (Elder (s .rows) x e)
   -- the fair copy is one unbroken block for each entry that was kept at the top or published, in that order, and nothing else
   pub one-block-each : b .fair ≡ copy-of-blocks blocks
@@ -122,4 +123,4 @@ abbrev pub Fair-copy-law : {V P O : Type 0} → Rules V P O → Type 0
 Fair-copy-law {V} {P} {O} R =
     (first : List V) (row-room line-room : ℕ) (history : List (Event V P O)) (s : State V P)
     → Leads R (set-up R first row-room line-room) history s
-    → Fair-copy-holds R first s (book-of history) (blocks-stored R (set-up R first row-room line-room) new-book history)
+    → Fair-copy-holds R first s (book-of history) (blocks-added R (set-up R first row-room line-room) new-book history)
