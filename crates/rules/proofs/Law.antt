@@ -26,7 +26,8 @@ use Rattle.rules.proofs.Kinship.{Grown, elders-are}
 use Rattle.rules.proofs.Descending.{downward, so-far-right, so-far-end}
 use Rattle.rules.proofs.Stores.{laws}
 use Rattle.rules.proofs.Upheld.{Upheld, lines-at, unwritten}
-use Rattle.rules.proofs.Steps.{step-good, seen-at}
+use Rattle.rules.proofs.Steps.{seen-at, upheld-by}
+use Rattle.rules.proofs.Once.{unadded, blocks-differ, blocks-ended}
 
 -- ---- blocks
 
@@ -80,35 +81,23 @@ module _ {V P O : Type 0} (R : Rules V P O) where
         on .0,
         ap (λ c. written c history) stays ∙ on .1,
         ap (λ answer. added-by s b (x .call) answer ++ blocks-added R (step R s (x .call) .state) (write b (x .call) (x .answer)) history) refused
-            ∙ ap (λ blocks. blocks ++ blocks-added R (step R s (x .call) .state) (write b (x .call) (x .answer)) history) (unadded s b (x .call))
+            ∙ ap (λ blocks. blocks ++ blocks-added R (step R s (x .call) .state) (write b (x .call) (x .answer)) history) (unadded s b (x .call) Unsound)
             ∙ ap (λ o. blocks-added R (o .state) (write b (x .call) (x .answer)) history) away
             ∙ ap (λ c. blocks-added R s c history) stays
             ∙ on .2,
       )
-    where
-      unadded : (s : State V P) (b : Book P O) (call : Call P) → added-by {V = V} s b call (Err Unsound) ≡ []
-      unadded s b (Begin q) = refl
-      unadded s b (Post e c p) = refl
-      unadded s b (Keep e) = refl
-      unadded s b (Publish e) = refl
-      unadded s b (Abandon e) = refl
-      unadded s b (Value c) = refl
 
 module _ {V P O : Type 0} (R : Rules V P O) (law : CrossingLaw R) (first : List V) where
-  -- a step is the event that the history names
-  upheld-by : (s : State V P) (b : Book P O) (x : Event V P O) → Upheld R first s b → step R s (x .call) .answer ≡ x .answer → Upheld R first (step R s (x .call) .state) (write b (x .call) (x .answer))
-  upheld-by s b x up same = subst (λ a. Upheld R first (step R s (x .call) .state) (write b (x .call) a)) same (step-good R law first s b up (x .call))
-
   led : (history : List (Event V P O)) (s t : State V P) (b : Book P O) → Upheld R first s b → Leads R s history t → Upheld R first t (written b history)
   led [] s t b up leads = subst (λ u. Upheld R first u b) leads up
-  led (x ∷ history) s t b up leads = led history (step R s (x .call) .state) t (write b (x .call) (x .answer)) (upheld-by s b x up (leads .0)) (leads .1)
+  led (x ∷ history) s t b up leads = led history (step R s (x .call) .state) t (write b (x .call) (x .answer)) (upheld-by R law first s b up x (leads .0)) (leads .1)
 
   fair-blocks : (history : List (Event V P O)) (s t : State V P) (b : Book P O) → Upheld R first s b → Leads R s history t → written b history .fair ≡ with-blocks (b .fair) (blocks-added R s b history)
   fair-blocks [] s t b up leads = refl
   fair-blocks (x ∷ history) s t b up leads =
       let u = step R s (x .call) .state in
       let c = write b (x .call) (x .answer) in
-      fair-blocks history u t c (upheld-by s b x up (leads .0)) (leads .1)
+      fair-blocks history u t c (upheld-by R law first s b up x (leads .0)) (leads .1)
       ∙ ap (λ copy. with-blocks copy (blocks-added R u c history)) (one-more s b (up .rows-are) (x .call) (x .answer))
       ∙ sym (folded-append (λ copy block. then-block copy (block .entry) (block .copy)) (b .fair) (added-by s b (x .call) (x .answer)) (blocks-added R u c history))
 
@@ -177,6 +166,8 @@ untouched R first rows lines = record {
   same-standing = refl;
   elders-are = elders-are [] no-rows;
   one-block-each = refl;
+  each-once = tt;
+  all-ended = tt;
 }
 
 pub fair-copy-law : {V P O : Type 0} (R : Rules V P O) → CrossingLaw R → Fair-copy-law R
@@ -194,6 +185,8 @@ fair-copy-law R law first rows lines history s leads =
             same-standing = up .rows-are;
             elders-are = elders-are (s .rows) (up .core .frame .grown);
             one-block-each = fair-blocks R law first history zero-state s new-book start leads;
+            each-once = blocks-differ R law first history zero-state s new-book start leads;
+            all-ended = blocks-ended R law first history zero-state s new-book start leads;
           }
       | inr unsound ↦
           let still = shut R history zero-state s new-book unsound refl leads in

@@ -15,5 +15,6 @@ mod Bare
 mod Pages
 mod Upheld
 mod Steps
+mod Once
 pub mod Law
 pub mod Refusing

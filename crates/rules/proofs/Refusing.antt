@@ -1,9 +1,9 @@
 -- What a refusal says of the lines, from the questions that a call was asked.
 use mathlib.Core.Path.{_≡_, refl, sym, ap, subst, _∙_}
 use mathlib.Core.List.{List, [], _∷_, _++_}
-use mathlib.Core.Bool.{Bool, true, false, cond, not, _&&_, false≢true}
+use mathlib.Core.Bool.{Bool, true, false, cond, not, _&&_, _||_, false≢true}
 use mathlib.Core.Logic.{_⊎_, inl, inr}
-use Prim.Native.Nat.{ℕ}
+use Prim.Native.Nat.{ℕ, zero, suc, _<_, _≤_}
 use native.Mathlib.Omega.{arith}
 use lib.ListN.{length}
 use lib.Dec.{eqb, ltb}
@@ -12,7 +12,7 @@ use Rattle.std.specs.shelf.Lists.{All}
 use Rattle.std.specs.declared.option.Option.{Option}
 use Rattle.std.specs.declared.option.Option.the-variants.{Some, None}
 use Rattle.std.specs.declared.result.Result.the-variants.{Ok, Err}
-use Rattle.std.proofs.shelf.Tests.{eqb-true, eq-eqb, and-parts, and-from, or-cases, or-left, or-right, not-true}
+use Rattle.std.proofs.shelf.Tests.{eqb-true, eqb-false, eq-eqb, ne-eqb, ltb-true, ltb-false, le-ltb, and-parts, and-from, or-cases, or-parts, or-from, or-left, or-right, not-true}
 use Rattle.std.proofs.shelf.Elements.{all-weaker}
 use Rattle.cells.specs.Kinds.{Rules, CrossingLaw}
 use Rattle.rules.specs.declared.lines.Line.{Line}
@@ -23,13 +23,12 @@ use Rattle.rules.specs.declared.refusals.Refusal.{Refusal}
 use Rattle.rules.specs.declared.refusals.Refusal.the-variants.{Unsound, NotStanding, HasChild, NoSuchCell, UnlawfulPosting, InTheWay, HeldByElder, NoFreeRow, NoFreeLine, NoNumberLeft}
 use Rattle.rules.specs.Refusals.{number-of, holder-of}
 use Rattle.rules.specs.Entries.{stands, childless, Elder, elders, is-among, is-own-or-elder}
-use Rattle.rules.specs.Cells.{value-at}
+use Rattle.rules.specs.Cells.{value-at, of-value}
 use Rattle.rules.specs.States.{State}
 use Rattle.rules.specs.Calls.{Answer, Outcome, some-line, earliest-holder, seen, stops-posting, stops-publishing, ask, ask-holder, first-no, further-questions, questions, at-value, taken, unless-refused, step}
-use Rattle.rules.specs.TurnedAway.{Among, Earliest, In-the-way, Held-back, Refusal-law}
-use Rattle.rules.proofs.Bools.{not-by}
-use Rattle.rules.proofs.Bare.{some-not-none, none-earliest}
-use Rattle.rules.proofs.Upheld.{ask-holder-yes, All-yes}
+use Rattle.rules.specs.TurnedAway.{Among, Earliest, Stops-posting, Stops-publishing, Fails, Refusal-law}
+use Rattle.rules.proofs.Bools.{not-by, false-by}
+use Rattle.rules.proofs.Bare.{some-not-none}
 use Rattle.rules.proofs.Law.{fair-copy-law}
 
 -- ---- answers
@@ -52,39 +51,101 @@ Is-taken (Err refusal) = ⊥
 taken-not-refused : {V O : Type 0} (reply : Reply V O) (refusal : Refusal) → Ok reply ≡ Err refusal → ⊥
 taken-not-refused reply refusal h = subst Is-taken h tt
 
--- ---- the first no is one of the questions
+-- ---- the first no
 
-ask-no : (T : Refusal → Type 0) (b : Bool) (r : Refusal) → T r → (refusal : Refusal) → ask b r ≡ Some refusal → T refusal
-ask-no T true r t refusal h = absurd (some-not-none refusal (sym h))
-ask-no T false r t refusal h = subst T (some-same h) t
+module _ (No : Refusal → Type 0) where
+  -- a question of number n, if answered no, says a refusal of that number which holds
+  abbrev Tells : Option Refusal → ℕ → Type 0
+  Tells q n = (refusal : Refusal) → q ≡ Some refusal → (number-of refusal ≡ n) × No refusal
 
-holder-no : (T : Refusal → Type 0) (o : Option ℕ) (r : ℕ → Refusal) → ((h : ℕ) → o ≡ Some h → T (r h)) → (refusal : Refusal) → ask-holder o r ≡ Some refusal → T refusal
-holder-no T None r t refusal h = absurd (some-not-none refusal (sym h))
-holder-no T (Some holder) r t refusal h = subst T (some-same h) (t holder refl)
+  ask-tells : (b : Bool) (r : Refusal) → (b ≡ false → No r) → Tells (ask b r) (number-of r)
+  ask-tells true r f refusal h = absurd (some-not-none refusal (sym h))
+  ask-tells false r f refusal h = subst (λ x. (number-of x ≡ number-of r) × No x) (some-same h) (refl, f refl)
 
-first-no-is : (T : Refusal → Type 0) (qs : List (Option Refusal)) → All (λ q. (refusal : Refusal) → q ≡ Some refusal → T refusal) qs → (refusal : Refusal) → first-no qs ≡ Some refusal → T refusal
-first-no-is T [] each refusal h = absurd (some-not-none refusal (sym h))
-first-no-is T (None ∷ qs) each refusal h = first-no-is T qs (each .1) refusal h
-first-no-is T (Some r ∷ qs) each refusal h = subst T (some-same h) (each .0 r refl)
+  holder-tells : (o : Option ℕ) (r : ℕ → Refusal) (n : ℕ) → ((h : ℕ) → number-of (r h) ≡ n) → ((h : ℕ) → o ≡ Some h → No (r h)) → Tells (ask-holder o r) n
+  holder-tells None r n number f refusal h = absurd (some-not-none refusal (sym h))
+  holder-tells (Some holder) r n number f refusal h = subst (λ x. (number-of x ≡ n) × No x) (some-same h) (number holder, f holder refl)
 
-none-no : (qs : List (Option Refusal)) → first-no qs ≡ None → All-yes qs
-none-no [] h = tt
-none-no (None ∷ qs) h = (refl, none-no qs h)
-none-no (Some r ∷ qs) h = absurd (some-not-none r h)
+  abbrev Tell-each : List (Option Refusal) → List ℕ → Type 0
+  Tell-each [] [] = Unit {0}
+  Tell-each [] (n ∷ ns) = ⊥
+  Tell-each (q ∷ qs) [] = ⊥
+  Tell-each (q ∷ qs) (n ∷ ns) = Tells q n × Tell-each qs ns
+
+  first-says : (qs : List (Option Refusal)) (ns : List ℕ) → Tell-each qs ns → (refusal : Refusal) → first-no qs ≡ Some refusal → No refusal
+  first-says [] ns tell refusal h = absurd (some-not-none refusal (sym h))
+  first-says (q ∷ qs) [] tell refusal h = absurd tell
+  first-says (None ∷ qs) (n ∷ ns) tell refusal h = first-says qs ns (tell .1) refusal h
+  first-says (Some r ∷ qs) (n ∷ ns) tell refusal h = tell .0 refusal h .1
+
+-- numbers that rise
+abbrev is-below : ℕ → List ℕ → Bool
+is-below n [] = true
+is-below n (m ∷ ms) = ltb n m && is-below n ms
+
+abbrev rise : List ℕ → Bool
+rise [] = true
+rise (n ∷ ns) = is-below n ns && rise ns
+
+-- one of the questions is answered no, and says so
+abbrev Is-said : Refusal → List (Option Refusal) → Type 0
+Is-said refusal [] = ⊥
+Is-said refusal (q ∷ qs) = (q ≡ Some refusal) ⊎ Is-said refusal qs
+
+said-later : (No : Refusal → Type 0) (n : ℕ) (qs : List (Option Refusal)) (ns : List ℕ) → Tell-each No qs ns → is-below n ns ≡ true → (other : Refusal) → Is-said other qs → n < number-of other
+said-later No n [] ns tell below other said = absurd said
+said-later No n (q ∷ qs) [] tell below other said = absurd tell
+said-later No n (q ∷ qs) (m ∷ ms) tell below other said =
+    let belows = and-parts (ltb n m) (is-below n ms) below in
+    elim said [
+      | inl h ↦ (let is : number-of other ≡ m = tell .0 other h .0 in let l : n < m = ltb-true n m (belows .0) in omega arith)
+      | inr later ↦ said-later No n qs ms (tell .1) (belows .1) other later
+    ]
+
+-- the first no has the least number
+first-least : (No : Refusal → Type 0) (qs : List (Option Refusal)) (ns : List ℕ) → Tell-each No qs ns → rise ns ≡ true → (other : Refusal) → Is-said other qs → (refusal : Refusal) → first-no qs ≡ Some refusal → number-of refusal ≤ number-of other
+first-least No [] ns tell rises other said refusal h = absurd said
+first-least No (q ∷ qs) [] tell rises other said refusal h = absurd tell
+first-least No (None ∷ qs) (n ∷ ns) tell rises other said refusal h = elim said [
+  | inl e ↦ absurd (some-not-none other (sym e))
+  | inr later ↦ first-least No qs ns (tell .1) (and-parts (is-below n ns) (rise ns) rises .1) other later refusal h
+]
+first-least No (Some r ∷ qs) (n ∷ ns) tell rises other said refusal h =
+    let first-is : number-of refusal ≡ n = tell .0 refusal h .0 in
+    elim said [
+      | inl e ↦ (let other-is : number-of other ≡ n = tell .0 other e .0 in omega arith)
+      | inr later ↦ (let l : n < number-of other = said-later No n qs ns (tell .1) (and-parts (is-below n ns) (rise ns) rises .0) other later in omega arith)
+    ]
+
+none-said : (qs : List (Option Refusal)) → first-no qs ≡ None → (refusal : Refusal) → Is-said refusal qs → ⊥
+none-said [] h refusal said = said
+none-said (None ∷ qs) h refusal said = elim said [ inl e ↦ some-not-none refusal (sym e) | inr later ↦ none-said qs h refusal later ]
+none-said (Some r ∷ qs) h refusal said = some-not-none r h
+
+-- ---- what a call is told
+
+value-past : {V : Type 0} (vs : List V) (c : ℕ) → value-at vs c ≡ None → length vs ≤ c
+value-past [] c h = omega arith
+value-past (v ∷ vs) zero h = absurd (some-not-none v h)
+value-past (v ∷ vs) (suc c) h = let l : length vs ≤ c = value-past vs c h in omega arith
+
+of-none : {V W : Type 0} (f : V → W) (o : Option V) → of-value f o ≡ None → o ≡ None
+of-none f None h = refl
+of-none f (Some v) h = absurd (some-not-none (f v) h)
 
 module _ {V P O : Type 0} (R : Rules V P O) (s : State V P) where
-  refused-by : (o : Option Refusal) (outcome : Outcome V P O) (refusal : Refusal) → unless-refused R s o outcome .answer ≡ Err refusal → (o ≡ Some refusal) ⊎ (outcome .answer ≡ Err refusal)
-  refused-by None outcome refusal h = inr h
+  refused-by : (o : Option Refusal) (outcome : Outcome V P O) (refusal : Refusal) → unless-refused R s o outcome .answer ≡ Err refusal → (o ≡ Some refusal) ⊎ ((o ≡ None) × (outcome .answer ≡ Err refusal))
+  refused-by None outcome refusal h = inr (refl, h)
   refused-by (Some r) outcome refusal h = inl (ap (λ a. Some (refusal-or r a)) h)
 
   taken-by : (o : Option Refusal) (outcome : Outcome V P O) (reply : Reply V O) → unless-refused R s o outcome .answer ≡ Ok reply → o ≡ None
   taken-by None outcome reply h = refl
   taken-by (Some r) outcome reply h = absurd (taken-not-refused reply r (sym h))
 
-  -- what needs a cell's value can still be turned away with 4, and with nothing else
+  -- an effect is refused only where it needs the value of a cell that there is not
   value-refused : (o : Option V) (outcome : V → Outcome V P O) (refusal : Refusal) → ((v : V) → outcome v .answer ≡ Err refusal → ⊥)
-      → at-value s o outcome .answer ≡ Err refusal → (at-value s o outcome .state ≡ s) × (NoSuchCell ≡ refusal)
-  value-refused None outcome refusal never h = (refl, ap (refusal-or refusal) h)
+      → at-value s o outcome .answer ≡ Err refusal → (at-value s o outcome .state ≡ s) × ((NoSuchCell ≡ refusal) × (o ≡ None))
+  value-refused None outcome refusal never h = (refl, (ap (refusal-or refusal) h, refl))
   value-refused (Some v) outcome refusal never h = absurd (never v h)
 
   taken-leaves : (call : Call P) (refusal : Refusal) → taken R s call .answer ≡ Err refusal → taken R s call .state ≡ s
@@ -94,6 +155,18 @@ module _ {V P O : Type 0} (R : Rules V P O) (s : State V P) where
   taken-leaves (Publish e) refusal h = absurd (taken-not-refused _ refusal h)
   taken-leaves (Abandon e) refusal h = absurd (taken-not-refused _ refusal h)
   taken-leaves (Value c) refusal h = value-refused (value-at (s .values) c) (λ v. _) refusal (λ v k. taken-not-refused _ refusal k) h .0
+
+  taken-fails : (call : Call P) (refusal : Refusal) → taken R s call .answer ≡ Err refusal → Fails R s refusal call
+  taken-fails (Begin q) refusal h = absurd (taken-not-refused _ refusal h)
+  taken-fails (Post e c p) refusal h =
+      let why = value-refused (seen R s e c) (λ v. _) refusal (λ v k. taken-not-refused _ refusal k) h .1 in
+      subst (λ r. Fails R s r (Post e c p)) (why .0) (value-past (s .values) c (of-none _ (value-at (s .values) c) (why .1)))
+  taken-fails (Keep e) refusal h = absurd (taken-not-refused _ refusal h)
+  taken-fails (Publish e) refusal h = absurd (taken-not-refused _ refusal h)
+  taken-fails (Abandon e) refusal h = absurd (taken-not-refused _ refusal h)
+  taken-fails (Value c) refusal h =
+      let why = value-refused (value-at (s .values) c) (λ v. _) refusal (λ v k. taken-not-refused _ refusal k) h .1 in
+      subst (λ r. Fails R s r (Value c)) (why .0) (value-past (s .values) c (why .1))
 
   leaves-by : (o : Option Refusal) (outcome : Outcome V P O) (refusal : Refusal) → (outcome .answer ≡ Err refusal → outcome .state ≡ s) → unless-refused R s o outcome .answer ≡ Err refusal → unless-refused R s o outcome .state ≡ s
   leaves-by None outcome refusal leaves h = leaves h
@@ -140,13 +213,26 @@ module _ {P : Type 0} where
     earliest-is [] h e = absurd (some-not-none h (sym e))
     earliest-is (l ∷ ls) h e = earliest-cond (test l) l ls h refl (earliest-is ls h) e
 
-    none-is : (ls : List (Line P)) → earliest-holder test ls ≡ None → All (λ l. Q l → ⊥) ls
-    none-is ls e = all-weaker (λ l. test l ≡ false) (λ l. Q l → ⊥) (λ l t q. false≢true (sym t ∙ decides l .1 q)) ls (none-earliest test ls e)
+    found-at : (before after : List (Line P)) (l : Line P) → All (λ m. Q m → ⊥) before → Q l → earliest-holder test (before ++ (l ∷ after)) ≡ Some (l .holder)
+    found-at [] after l none q = ap (λ b. cond b (Some (l .holder)) (earliest-holder test after)) (decides l .1 q)
+    found-at (m ∷ before) after l none q =
+        ap (λ b. cond b (Some (m .holder)) (earliest-holder test (before ++ (l ∷ after)))) (false-by (test m) (λ t. none .0 (decides m .0 t)))
+        ∙ found-at before after l (none .1) q
+
+    earliest-found : (ls : List (Line P)) (h : ℕ) → Earliest Q ls h → earliest-holder test ls ≡ Some h
+    earliest-found ls h e =
+        ap (earliest-holder test) (e .place .is-there)
+        ∙ found-at (e .place .before) (e .place .after) (e .line) (e .none-before) (e .has-it)
+        ∙ ap (λ x. Some x) (e .its-holder)
 
 -- ---- questions 6 and 7
 
+-- an option has the value h just where Q holds
+abbrev Decides-some : Option ℕ → ℕ → Type 0 → Type 0
+Decides-some o h Q = (o ≡ Some h → Q) × (Q → o ≡ Some h)
+
 module _ {V P O : Type 0} (R : Rules V P O) (s : State V P) (elders-are : (e x : ℕ) → Decides (is-among (elders (s .rows) e) x) (Elder (s .rows) x e)) where
-  stops-posting-is : (e c : ℕ) (p : P) (l : Line P) → Decides (stops-posting R s e c p l) (In-the-way R s e c p l)
+  stops-posting-is : (e c : ℕ) (p : P) (l : Line P) → Decides (stops-posting R s e c p l) (Stops-posting R s e c p l)
   stops-posting-is e c p l =
       let ours = is-own-or-elder (s .rows) e (l .holder) in
       let crossed = R .crosses p (l .posting) in (
@@ -170,7 +256,7 @@ module _ {V P O : Type 0} (R : Rules V P O) (s : State V P) (elders-are : (e x :
             (not-by crossed (λ cr. false≢true (sym (w .not-crossed) ∙ cr)))),
       )
 
-  stops-publishing-is : (e : ℕ) (m : Line P) → Decides (stops-publishing R s e m) (Held-back R s e m)
+  stops-publishing-is : (e : ℕ) (m : Line P) → Decides (stops-publishing R s e m) (Stops-publishing R s e m)
   stops-publishing-is e m =
       let clashes : Line P → Bool = λ l. eqb (l .holder) e && (eqb (l .cell) (m .cell) && not (R .crosses (l .posting) (m .posting))) in
       let elders-line = is-among (elders (s .rows) e) (m .holder) in (
@@ -199,73 +285,193 @@ module _ {V P O : Type 0} (R : Rules V P O) (s : State V P) (elders-are : (e x :
             ),
       )
 
-  in-the-way : (e c : ℕ) (p : P) (refusal : Refusal) → step R s (Post e c p) .answer ≡ Err refusal → number-of refusal ≡ 6 → Earliest (In-the-way R s e c p) (s .lines) (holder-of refusal)
-  in-the-way e c p refusal h six =
-      let T : Refusal → Type 0 = λ r. number-of r ≡ 6 → Earliest (In-the-way R s e c p) (s .lines) (holder-of r) in
-      let outcome = taken R s (Post e c p) in
-      elim (refused-by R s (first-no (questions R s (Post e c p))) outcome refusal h) [
-        | inr k ↦ absurd (
-            let is : NoSuchCell ≡ refusal = value-refused R s (seen R s e c) (λ v. _) refusal (λ v j. taken-not-refused _ refusal j) k .1 in
-            let four : 4 ≡ 6 = ap number-of is ∙ six in
-            omega arith
-            )
-        | inl k ↦ first-no-is T (questions R s (Post e c p)) (
-          ask-no T (s .sound) Unsound (λ i. absurd (let w : 1 ≡ 6 = i in omega arith)),
+  earliest-in-the-way : (e c : ℕ) (p : P) (h : ℕ) → Decides-some (earliest-holder (stops-posting R s e c p) (s .lines)) h (Earliest (Stops-posting R s e c p) (s .lines) h)
+  earliest-in-the-way e c p h = (
+    earliest-is (stops-posting R s e c p) (Stops-posting R s e c p) (stops-posting-is e c p) (s .lines) h,
+    earliest-found (stops-posting R s e c p) (Stops-posting R s e c p) (stops-posting-is e c p) (s .lines) h,
+  )
+
+  earliest-held : (e h : ℕ) → Decides-some (earliest-holder (stops-publishing R s e) (s .lines)) h (Earliest (Stops-publishing R s e) (s .lines) h)
+  earliest-held e h = (
+    earliest-is (stops-publishing R s e) (Stops-publishing R s e) (stops-publishing-is e) (s .lines) h,
+    earliest-found (stops-publishing R s e) (Stops-publishing R s e) (stops-publishing-is e) (s .lines) h,
+  )
+
+  -- ---- each question says what it asks
+
+  -- the numbers of the questions to a call
+  abbrev numbers : Call P → List ℕ
+  numbers (Begin q) = 1 ∷ 2 ∷ 8 ∷ 10 ∷ []
+  numbers (Post e c p) = 1 ∷ 2 ∷ 3 ∷ 4 ∷ 5 ∷ 6 ∷ 9 ∷ []
+  numbers (Keep e) = 1 ∷ 2 ∷ 3 ∷ []
+  numbers (Publish e) = 1 ∷ 2 ∷ 3 ∷ 7 ∷ []
+  numbers (Abandon e) = 1 ∷ 2 ∷ []
+  numbers (Value c) = 1 ∷ 4 ∷ []
+
+  tells : (call : Call P) → Tell-each (λ r. Fails R s r call) (questions R s call) (numbers call)
+  tells (Begin q) =
+      let No : Refusal → Type 0 = λ r. Fails R s r (Begin q) in (
+        ask-tells No (s .sound) Unsound (λ h. h),
+        (
+          ask-tells No (eqb q 0 || stands (s .rows) q) NotStanding (λ h. (let hs = or-parts (eqb q 0) (stands (s .rows) q) h in (eqb-false q 0 (hs .0), hs .1))),
           (
-            ask-no T (stands (s .rows) e) NotStanding (λ i. absurd (let w : 2 ≡ 6 = i in omega arith)),
+            ask-tells No (ltb (length (s .rows)) (s .row-room)) NoFreeRow (ltb-false (length (s .rows)) (s .row-room)),
             (
-              ask-no T (childless (s .rows) e) HasChild (λ i. absurd (let w : 3 ≡ 6 = i in omega arith)),
+              ask-tells No (ltb (s .begun) 65535) NoNumberLeft (ltb-false (s .begun) 65535),
+              tt,
+            ),
+          ),
+        ),
+      )
+  tells (Post e c p) =
+      let No : Refusal → Type 0 = λ r. Fails R s r (Post e c p) in (
+        ask-tells No (s .sound) Unsound (λ h. h),
+        (
+          ask-tells No (stands (s .rows) e) NotStanding (λ h. h),
+          (
+            ask-tells No (childless (s .rows) e) HasChild (λ h. h),
+            (
+              ask-tells No (ltb c (length (s .values))) NoSuchCell (ltb-false c (length (s .values))),
               (
-                ask-no T (ltb c (length (s .values))) NoSuchCell (λ i. absurd (let w : 4 ≡ 6 = i in omega arith)),
+                ask-tells No (R .posting-lawful p) UnlawfulPosting (λ h. h),
                 (
-                  ask-no T (R .posting-lawful p) UnlawfulPosting (λ i. absurd (let w : 5 ≡ 6 = i in omega arith)),
+                  holder-tells No (earliest-holder (stops-posting R s e c p) (s .lines)) InTheWay 6 (λ h. refl) (λ h. earliest-in-the-way e c p h .0),
                   (
-                    holder-no T (earliest-holder (stops-posting R s e c p) (s .lines)) InTheWay (λ holder is i. earliest-is (stops-posting R s e c p) (In-the-way R s e c p) (stops-posting-is e c p) (s .lines) holder is),
-                    (
-                      ask-no T (ltb (length (s .lines)) (s .line-room)) NoFreeLine (λ i. absurd (let w : 9 ≡ 6 = i in omega arith)),
-                      tt,
-                    ),
+                    ask-tells No (ltb (length (s .lines)) (s .line-room)) NoFreeLine (ltb-false (length (s .lines)) (s .line-room)),
+                    tt,
                   ),
                 ),
               ),
             ),
           ),
-        )
-            refusal k six
-      ]
-
-  none-in-the-way : (e c : ℕ) (p : P) (reply : Reply V O) → step R s (Post e c p) .answer ≡ Ok reply → All (λ l. In-the-way R s e c p l → ⊥) (s .lines)
-  none-in-the-way e c p reply h =
-      let ys = none-no (questions R s (Post e c p)) (taken-by R s (first-no (questions R s (Post e c p))) (taken R s (Post e c p)) reply h) in
-      none-is (stops-posting R s e c p) (In-the-way R s e c p) (stops-posting-is e c p) (s .lines)
-      (ask-holder-yes (earliest-holder (stops-posting R s e c p) (s .lines)) InTheWay (ys .1 .1 .1 .1 .1 .0))
-
-  held-back : (e : ℕ) (refusal : Refusal) → step R s (Publish e) .answer ≡ Err refusal → number-of refusal ≡ 7 → Earliest (Held-back R s e) (s .lines) (holder-of refusal)
-  held-back e refusal h seven =
-      let T : Refusal → Type 0 = λ r. number-of r ≡ 7 → Earliest (Held-back R s e) (s .lines) (holder-of r) in
-      elim (refused-by R s (first-no (questions R s (Publish e))) (taken R s (Publish e)) refusal h) [
-        | inr k ↦ absurd (taken-not-refused _ refusal k)
-        | inl k ↦ first-no-is T (questions R s (Publish e)) (
-          ask-no T (s .sound) Unsound (λ i. absurd (let w : 1 ≡ 7 = i in omega arith)),
+        ),
+      )
+  tells (Keep e) =
+      let No : Refusal → Type 0 = λ r. Fails R s r (Keep e) in (
+        ask-tells No (s .sound) Unsound (λ h. h),
+        (
+          ask-tells No (stands (s .rows) e) NotStanding (λ h. h),
           (
-            ask-no T (stands (s .rows) e) NotStanding (λ i. absurd (let w : 2 ≡ 7 = i in omega arith)),
+            ask-tells No (childless (s .rows) e) HasChild (λ h. h),
+            tt,
+          ),
+        ),
+      )
+  tells (Publish e) =
+      let No : Refusal → Type 0 = λ r. Fails R s r (Publish e) in (
+        ask-tells No (s .sound) Unsound (λ h. h),
+        (
+          ask-tells No (stands (s .rows) e) NotStanding (λ h. h),
+          (
+            ask-tells No (childless (s .rows) e) HasChild (λ h. h),
             (
-              ask-no T (childless (s .rows) e) HasChild (λ i. absurd (let w : 3 ≡ 7 = i in omega arith)),
-              (
-                holder-no T (earliest-holder (stops-publishing R s e) (s .lines)) HeldByElder (λ holder is i. earliest-is (stops-publishing R s e) (Held-back R s e) (stops-publishing-is e) (s .lines) holder is),
-                tt,
-              ),
+              holder-tells No (earliest-holder (stops-publishing R s e) (s .lines)) HeldByElder 7 (λ h. refl) (λ h. earliest-held e h .0),
+              tt,
             ),
           ),
-        )
-            refusal k seven
+        ),
+      )
+  tells (Abandon e) =
+      let No : Refusal → Type 0 = λ r. Fails R s r (Abandon e) in (
+        ask-tells No (s .sound) Unsound (λ h. h),
+        (
+          ask-tells No (stands (s .rows) e) NotStanding (λ h. h),
+          tt,
+        ),
+      )
+  tells (Value c) =
+      let No : Refusal → Type 0 = λ r. Fails R s r (Value c) in (
+        ask-tells No (s .sound) Unsound (λ h. h),
+        (
+          ask-tells No (ltb c (length (s .values))) NoSuchCell (ltb-false c (length (s .values))),
+          tt,
+        ),
+      )
+
+  numbers-rise : (call : Call P) → rise (numbers call) ≡ true
+  numbers-rise (Begin q) = refl
+  numbers-rise (Post e c p) = refl
+  numbers-rise (Keep e) = refl
+  numbers-rise (Publish e) = refl
+  numbers-rise (Abandon e) = refl
+  numbers-rise (Value c) = refl
+
+  -- a question that fails is among those that the call is asked, and says so
+  fails-said : (refusal : Refusal) (call : Call P) → Fails R s refusal call → Is-said refusal (questions R s call)
+  fails-said Unsound call no-to = inl (ap (λ b. ask b Unsound) no-to)
+  fails-said NotStanding (Begin q) no-to = inr (inl (ap (λ b. ask b NotStanding) (or-from (eqb q 0) (stands (s .rows) q) (ne-eqb q 0 (no-to .0)) (no-to .1))))
+  fails-said NotStanding (Post e c p) no-to = inr (inl (ap (λ b. ask b NotStanding) no-to))
+  fails-said NotStanding (Keep e) no-to = inr (inl (ap (λ b. ask b NotStanding) no-to))
+  fails-said NotStanding (Publish e) no-to = inr (inl (ap (λ b. ask b NotStanding) no-to))
+  fails-said NotStanding (Abandon e) no-to = inr (inl (ap (λ b. ask b NotStanding) no-to))
+  fails-said NotStanding (Value c) no-to = absurd no-to
+  fails-said HasChild (Begin q) no-to = absurd no-to
+  fails-said HasChild (Post e c p) no-to = inr (inr (inl (ap (λ b. ask b HasChild) no-to)))
+  fails-said HasChild (Keep e) no-to = inr (inr (inl (ap (λ b. ask b HasChild) no-to)))
+  fails-said HasChild (Publish e) no-to = inr (inr (inl (ap (λ b. ask b HasChild) no-to)))
+  fails-said HasChild (Abandon e) no-to = absurd no-to
+  fails-said HasChild (Value c) no-to = absurd no-to
+  fails-said NoSuchCell (Begin q) no-to = absurd no-to
+  fails-said NoSuchCell (Post e c p) no-to = inr (inr (inr (inl (ap (λ b. ask b NoSuchCell) (le-ltb c (length (s .values)) no-to)))))
+  fails-said NoSuchCell (Keep e) no-to = absurd no-to
+  fails-said NoSuchCell (Publish e) no-to = absurd no-to
+  fails-said NoSuchCell (Abandon e) no-to = absurd no-to
+  fails-said NoSuchCell (Value c) no-to = inr (inl (ap (λ b. ask b NoSuchCell) (le-ltb c (length (s .values)) no-to)))
+  fails-said UnlawfulPosting (Begin q) no-to = absurd no-to
+  fails-said UnlawfulPosting (Post e c p) no-to = inr (inr (inr (inr (inl (ap (λ b. ask b UnlawfulPosting) no-to)))))
+  fails-said UnlawfulPosting (Keep e) no-to = absurd no-to
+  fails-said UnlawfulPosting (Publish e) no-to = absurd no-to
+  fails-said UnlawfulPosting (Abandon e) no-to = absurd no-to
+  fails-said UnlawfulPosting (Value c) no-to = absurd no-to
+  fails-said (InTheWay h) (Begin q) no-to = absurd no-to
+  fails-said (InTheWay h) (Post e c p) no-to = inr (inr (inr (inr (inr (inl (ap (λ o. ask-holder o InTheWay) (earliest-in-the-way e c p h .1 no-to)))))))
+  fails-said (InTheWay h) (Keep e) no-to = absurd no-to
+  fails-said (InTheWay h) (Publish e) no-to = absurd no-to
+  fails-said (InTheWay h) (Abandon e) no-to = absurd no-to
+  fails-said (InTheWay h) (Value c) no-to = absurd no-to
+  fails-said (HeldByElder h) (Begin q) no-to = absurd no-to
+  fails-said (HeldByElder h) (Post e c p) no-to = absurd no-to
+  fails-said (HeldByElder h) (Keep e) no-to = absurd no-to
+  fails-said (HeldByElder h) (Publish e) no-to = inr (inr (inr (inl (ap (λ o. ask-holder o HeldByElder) (earliest-held e h .1 no-to)))))
+  fails-said (HeldByElder h) (Abandon e) no-to = absurd no-to
+  fails-said (HeldByElder h) (Value c) no-to = absurd no-to
+  fails-said NoFreeRow (Begin q) no-to = inr (inr (inl (ap (λ b. ask b NoFreeRow) (le-ltb (length (s .rows)) (s .row-room) no-to))))
+  fails-said NoFreeRow (Post e c p) no-to = absurd no-to
+  fails-said NoFreeRow (Keep e) no-to = absurd no-to
+  fails-said NoFreeRow (Publish e) no-to = absurd no-to
+  fails-said NoFreeRow (Abandon e) no-to = absurd no-to
+  fails-said NoFreeRow (Value c) no-to = absurd no-to
+  fails-said NoFreeLine (Begin q) no-to = absurd no-to
+  fails-said NoFreeLine (Post e c p) no-to = inr (inr (inr (inr (inr (inr (inl (ap (λ b. ask b NoFreeLine) (le-ltb (length (s .lines)) (s .line-room) no-to))))))))
+  fails-said NoFreeLine (Keep e) no-to = absurd no-to
+  fails-said NoFreeLine (Publish e) no-to = absurd no-to
+  fails-said NoFreeLine (Abandon e) no-to = absurd no-to
+  fails-said NoFreeLine (Value c) no-to = absurd no-to
+  fails-said NoNumberLeft (Begin q) no-to = inr (inr (inr (inl (ap (λ b. ask b NoNumberLeft) (le-ltb (s .begun) 65535 no-to)))))
+  fails-said NoNumberLeft (Post e c p) no-to = absurd no-to
+  fails-said NoNumberLeft (Keep e) no-to = absurd no-to
+  fails-said NoNumberLeft (Publish e) no-to = absurd no-to
+  fails-said NoNumberLeft (Abandon e) no-to = absurd no-to
+  fails-said NoNumberLeft (Value c) no-to = absurd no-to
+
+  says-why : (call : Call P) (refusal : Refusal) → step R s call .answer ≡ Err refusal → Fails R s refusal call
+  says-why call refusal h = elim (refused-by R s (first-no (questions R s call)) (taken R s call) refusal h) [
+    | inl first ↦ first-says (λ r. Fails R s r call) (questions R s call) (numbers call) (tells call) refusal first
+    | inr effect ↦ taken-fails R s call refusal (effect .1)
+  ]
+
+  says-first : (call : Call P) (refusal : Refusal) → step R s call .answer ≡ Err refusal → (other : Refusal) → number-of other < number-of refusal → Fails R s other call → ⊥
+  says-first call refusal h other less fails =
+      let said = fails-said other call fails in
+      elim (refused-by R s (first-no (questions R s call)) (taken R s call) refusal h) [
+        | inl first ↦
+            let least : number-of refusal ≤ number-of other = first-least (λ r. Fails R s r call) (questions R s call) (numbers call) (tells call) (numbers-rise call) other said refusal first in
+            omega arith
+        | inr effect ↦ none-said (questions R s call) (effect .0) other said
       ]
 
-  none-held-back : (e : ℕ) (reply : Reply V O) → step R s (Publish e) .answer ≡ Ok reply → All (λ m. Held-back R s e m → ⊥) (s .lines)
-  none-held-back e reply h =
-      let ys = none-no (questions R s (Publish e)) (taken-by R s (first-no (questions R s (Publish e))) (taken R s (Publish e)) reply h) in
-      none-is (stops-publishing R s e) (Held-back R s e) (stops-publishing-is e) (s .lines)
-      (ask-holder-yes (earliest-holder (stops-publishing R s e) (s .lines)) HeldByElder (ys .1 .1 .1 .0))
+  taken-fails-none : (call : Call P) (reply : Reply V O) → step R s call .answer ≡ Ok reply → (refusal : Refusal) → Fails R s refusal call → ⊥
+  taken-fails-none call reply h refusal fails = none-said (questions R s call) (taken-by R s (first-no (questions R s call)) (taken R s call) reply h) refusal (fails-said refusal call fails)
 
 names-nobody : (refusal : Refusal) → (number-of refusal ≡ 6 → ⊥) → (number-of refusal ≡ 7 → ⊥) → holder-of refusal ≡ 0
 names-nobody Unsound six seven = refl
@@ -279,18 +485,13 @@ names-nobody NoFreeRow six seven = refl
 names-nobody NoFreeLine six seven = refl
 names-nobody NoNumberLeft six seven = refl
 
-unsound-refuses : {V P O : Type 0} (R : Rules V P O) (s : State V P) (call : Call P) → s .sound ≡ false → (refusal : Refusal) × (step R s call .answer ≡ Err refusal) × (number-of refusal ≡ 1)
-unsound-refuses R s call un = (Unsound, ap (λ y. unless-refused R s (first-no (ask y Unsound ∷ further-questions R s call)) (taken R s call) .answer) un, refl)
-
 pub refusal-law : {V P O : Type 0} (R : Rules V P O) → CrossingLaw R → Refusal-law R
 refusal-law R law first rows lines history s leads =
     let are = fair-copy-law R law first rows lines history s leads .elders-are in
     record {
       leaves-all = λ call refusal h. leaves-by R s (first-no (questions R s call)) (taken R s call) refusal (taken-leaves R s call refusal) h;
-      if-unsound = λ call un. unsound-refuses R s call un;
-      in-the-way = in-the-way R s are;
-      none-in-the-way = none-in-the-way R s are;
-      held-back = held-back R s are;
-      none-held-back = none-held-back R s are;
+      says-why = says-why R s are;
+      says-first = says-first R s are;
+      taken-fails-none = taken-fails-none R s are;
       names-nobody = names-nobody;
     }

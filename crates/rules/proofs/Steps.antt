@@ -24,7 +24,7 @@ use Rattle.rules.specs.Cells.{value-at, of-value}
 use Rattle.rules.specs.States.{State}
 use Rattle.rules.specs.Calls.{Outcome, seen, commit, held-by, not-held-by, pass-on, earliest-holder, some-line, stops-posting, stops-publishing, questions, further-questions, turned-away, committed-state, passed-state, kept-state, taken, step}
 use Rattle.rules.specs.Books.{Copied, Copy, then-line, then-block, lines-of, Book, rows-of, copy-of, with-begun, with-line, with-fair-block, with-block, with-abandoned, write}
-use Rattle.rules.specs.FairCopy.{post-line, Gets-its-answer}
+use Rattle.rules.specs.FairCopy.{Event, post-line, Gets-its-answer}
 use Rattle.rules.proofs.Holdings.{Held, held, renamed}
 use Rattle.rules.proofs.Kinship.{Grown, stood, stands-rest, joined-cases, elders-top, elders-inner, no-child}
 use Rattle.rules.proofs.Standing.{Core, left-of, other-copies}
@@ -249,3 +249,7 @@ module _ {V P O : Type 0} (R : Rules V P O) (law : CrossingLaw R) (first : List 
 
   pub step-good : (call : Call P) → Upheld R first (step R s call .state) (write b call (step R s call .answer))
   step-good call = asked R (Good call) s (taken R s call) (turned call) (questions R s call) (λ ys. taken-good call (ys .1))
+
+  -- a step is the event that a history names
+  pub upheld-by : (x : Event V P O) → step R s (x .call) .answer ≡ x .answer → Upheld R first (step R s (x .call) .state) (write b (x .call) (x .answer))
+  upheld-by x same = subst (λ a. Upheld R first (step R s (x .call) .state) (write b (x .call) a)) same (step-good (x .call))

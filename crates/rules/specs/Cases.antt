@@ -1,4 +1,5 @@
--- Worked cases of the rules: calls, the answer to each of them, and the committed values that they come to. Assumes nothing.
+-- Worked cases of the rules: calls, the answer to each of them, and the committed values that they come to; for some also what the
+-- book writes or what an entry sees. Assumes nothing.
 use mathlib.Core.Path.{_≡_}
 use mathlib.Core.Bool.{true}
 use mathlib.Core.List.{List, [], _∷_, map}
@@ -28,7 +29,7 @@ use Rattle.rules.specs.Refusals.{number-of, holder-of}
 use Rattle.rules.specs.States.{State, set-up}
 use Rattle.rules.specs.Calls as calls
 use Rattle.rules.specs.Calls.{Answer, step}
-use Rattle.rules.specs.Books.{Copied, empty, then-line, then-block, lines-of}
+use Rattle.rules.specs.Books.{Copied, Copy, empty, then-line, then-block, lines-of}
 use Rattle.rules.specs.FairCopy.{Event, book-of, Get-their-answers, values-after}
 
 -- ---- what calls come to
@@ -63,6 +64,10 @@ module _ {V P O : Type 0} (R : Rules V P O) where
   -- .. with room for 4 rows and 8 lines
   abbrev pub Case : List V → List (Event V P O) → List V → Type 0
   Case first events values = Case-with-room 4 8 first events values
+
+  -- .. at the end no entry stands, and the book that is fed the calls with these answers has this fair copy
+  abbrev pub Book-case : List V → List (Event V P O) → List V → Copy P O → Type 0
+  Book-case first events values copy = Case first events values × (book-of events ≡ record { fair = copy; pages = [] })
 
 -- ---- how a case is written
 
@@ -233,7 +238,7 @@ pub record Worked-cases : Type 0 where
       ∷ Keep 1 gets done
       ∷ []) (one-cell 250)
   -- an entry does not see what its abandoned child set
-  pub sees-not-what-an-abandoned-child-set :
+  pub does-not-see-what-an-abandoned-child-set :
       Case level-rules (one-cell 0)
       (Begin 0 gets entry 1 ∷ Begin 1 gets entry 2
       ∷ Post 2 0 (set 250) gets posted
@@ -247,8 +252,8 @@ pub record Worked-cases : Type 0 where
       ∷ Post 1 0 (set 250) gets posted
       ∷ Post 1 1 level.Look gets seen 0
       ∷ []) (two-cells 0 0)
-  -- an entry does not see what a stranger posted, though it crosses
-  pub sees-not-what-strangers-add :
+  -- an entry does not see what another one posted that is no elder, though the postings cross
+  pub does-not-see-what-others-add :
       map (λ e. calls.seen total-rules
       (state-after total-rules (set-up total-rules (one-cell 0) 4 8)
       (Begin 0 ∷ Begin 0
@@ -309,6 +314,67 @@ pub record Worked-cases : Type 0 where
       ∷ Begin 0 gets entry 4
       ∷ Post 4 0 (add 6) gets posted
       ∷ []) (one-cell 7)
+  -- ---- children of one parent, and lines that a kept child passed on
+  -- an entry may have several standing children; a sibling's line is in the way until it is kept, and is then an elder's
+  pub siblings :
+      Case level-rules (one-cell 0)
+      (Begin 0 gets entry 1 ∷ Begin 1 gets entry 2 ∷ Begin 1 gets entry 3
+      ∷ Post 2 0 (set 250) gets posted
+      ∷ Post 3 0 level.Look gets turned (InTheWay 2)
+      ∷ Keep 2 gets done
+      ∷ Post 3 0 level.Look gets seen 250
+      ∷ []) (one-cell 0)
+  -- an abandon leaves the siblings and their lines
+  pub abandon-leaves-siblings :
+      Case total-rules (one-cell 0)
+      (Begin 0 gets entry 1 ∷ Begin 1 gets entry 2 ∷ Begin 1 gets entry 3
+      ∷ Post 2 0 (add 3) gets posted
+      ∷ Post 3 0 (add 4) gets posted
+      ∷ Abandon 2 gets done
+      ∷ Keep 3 gets done
+      ∷ Keep 1 gets done
+      ∷ []) (one-cell 4)
+  -- lines that a kept child passed on keep their places, and are now its parent's
+  pub passed-lines-keep-their-places :
+      Case total-rules (one-cell 0)
+      (Begin 0 gets entry 1 ∷ Begin 1 gets entry 2 ∷ Begin 0 gets entry 3 ∷ Begin 0 gets entry 4
+      ∷ Post 2 0 (add 3) gets posted
+      ∷ Post 3 0 (add 4) gets posted
+      ∷ Post 4 0 total.Look gets turned (InTheWay 2)
+      ∷ Keep 2 gets done
+      ∷ Post 4 0 total.Look gets turned (InTheWay 1)
+      ∷ []) (one-cell 0)
+  -- lines that a kept child passed on stand after those that its parent had posted before
+  pub passed-lines-come-after :
+      Case level-rules (one-cell 0)
+      (Begin 0 gets entry 1
+      ∷ Post 1 0 (set 3) gets posted
+      ∷ Begin 1 gets entry 2
+      ∷ Post 2 0 (set 4) gets posted
+      ∷ Keep 2 gets done
+      ∷ Keep 1 gets done
+      ∷ []) (one-cell 4)
+  -- a line that a kept child passed on is its parent's at a publish
+  pub elder-has-a-passed-line :
+      Case level-rules (two-cells 0 0)
+      (Begin 0 gets entry 1 ∷ Begin 1 gets entry 2 ∷ Begin 2 gets entry 3
+      ∷ Post 3 0 level.Look gets seen 0
+      ∷ Keep 3 gets done
+      ∷ Begin 2 gets entry 4
+      ∷ Post 4 1 (set 60) gets posted
+      ∷ Post 4 0 (set 250) gets posted
+      ∷ Publish 4 gets turned (HeldByElder 2)
+      ∷ []) (two-cells 0 0)
+  -- a publish stores all lines of the entry, also those passed on to it, in posting order
+  pub publish-stores-every-line :
+      Case level-rules (two-cells 0 0)
+      (Begin 0 gets entry 1 ∷ Begin 1 gets entry 2 ∷ Begin 2 gets entry 3
+      ∷ Post 3 0 (set 3) gets posted
+      ∷ Keep 3 gets done
+      ∷ Post 2 1 (set 60) gets posted
+      ∷ Post 2 0 (set 4) gets posted
+      ∷ Publish 2 gets done
+      ∷ []) (two-cells 4 60)
   -- ---- lines in the way of a posting
   -- a look is turned away until the other entry's set is kept
   pub look-at-what-another-set :
@@ -488,20 +554,19 @@ pub record Worked-cases : Type 0 where
       ∷ Post 3 0 total.Look gets turned NoFreeLine
       ∷ []) (one-cell 0)
   -- ---- the fair copy
-  -- the example gets its answers from the register, and ends in 5 and 60 ..
-  pub example-answers : Case level-rules (two-cells 0 0) example (two-cells 5 60)
-  -- .. its fair copy has the published child first, and the kept one inside its parent ..
-  pub example-copy :
-      book-of example .fair
-      ≡ then-block (then-block empty 2 (then-line empty (line 1 (set 60)))) 1
+  -- the published child comes first, and the kept one stands inside its parent: not the order of posting
+  pub example-of-a-copy :
+      Book-case level-rules (two-cells 0 0) example (two-cells 5 60)
+      (then-block (then-block empty 2 (then-line empty (line 1 (set 60)))) 1
       (then-block (then-line empty (line 0 (set 5))) 3
-      (then-line empty (record { cell = 0; posting = level.Look; answer = Seen (pos 5) })))
-  -- .. and that, posted on the first values, gets the same answers and ends in the same values
+      (then-line empty (record { cell = 0; posting = level.Look; answer = Seen (pos 5) }))))
+  -- .. posted on the first values it gets the same answers ..
   pub example-posted : Get-their-answers level-rules (two-cells 0 0) (lines-of (book-of example .fair))
+  -- .. and ends in the same values
   pub example-ends : values-after level-rules (two-cells 0 0) (lines-of (book-of example .fair)) ≡ two-cells 5 60
   -- a kept child is one block, at the place in its parent's copy where it was kept
   pub kept-child-is-a-block :
-      book-of
+      Book-case total-rules (one-cell 0)
       (Begin 0 gets entry 1
       ∷ Post 1 0 (add 3) gets posted
       ∷ Begin 1 gets entry 2
@@ -509,11 +574,11 @@ pub record Worked-cases : Type 0 where
       ∷ Keep 2 gets done
       ∷ Post 1 0 (add 5) gets posted
       ∷ Keep 1 gets done
-      ∷ []) .fair
-      ≡ then-block empty 1 (then-line (then-block (then-line empty (line 0 (add 3))) 2 (then-line empty (line 0 (add 4)))) (line 0 (add 5)))
+      ∷ []) (one-cell 12)
+      (then-block empty 1 (then-line (then-block (then-line empty (line 0 (add 3))) 2 (then-line empty (line 0 (add 4)))) (line 0 (add 5))))
   -- what was published from inside is a block of its own, before its parent's; calls turned away leave no trace
   pub published-child-is-apart :
-      book-of
+      Book-case total-rules (one-cell 0)
       (Begin 0 gets entry 1
       ∷ Post 1 0 (add 3) gets posted
       ∷ Begin 1 gets entry 2
@@ -521,17 +586,17 @@ pub record Worked-cases : Type 0 where
       ∷ Keep 1 gets turned HasChild
       ∷ Publish 2 gets done
       ∷ Keep 1 gets done
-      ∷ []) .fair
-      ≡ then-block (then-block empty 2 (then-line empty (line 0 (add 4)))) 1 (then-line empty (line 0 (add 3)))
+      ∷ []) (one-cell 7)
+      (then-block (then-block empty 2 (then-line empty (line 0 (add 4)))) 1 (then-line empty (line 0 (add 3))))
   -- what was abandoned is nowhere in the book
   pub abandoned-is-dropped :
-      book-of
+      Book-case total-rules (one-cell 0)
       (Begin 0 gets entry 1 ∷ Begin 1 gets entry 2 ∷ Begin 2 gets entry 3
       ∷ Post 3 0 (add 3) gets posted
       ∷ Keep 3 gets done
       ∷ Begin 2 gets entry 4
       ∷ Abandon 1 gets done
-      ∷ []) ≡ record { fair = empty; pages = [] }
+      ∷ []) (one-cell 0) empty
   -- ---- tables out of their sizes and unlawful first values, where every call is turned away
   -- no cell
   pub no-cells : Case level-rules [] (all-turned level.Look) []

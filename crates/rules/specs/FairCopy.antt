@@ -5,7 +5,7 @@ use mathlib.Core.Bool.{Bool, true, cond, _&&_}
 use Prim.Native.Nat.{ℕ}
 use lib.Dec.{eqb}
 use Rattle.std.specs.Orderings.{Decides}
-use Rattle.std.specs.shelf.Lists.{folded}
+use Rattle.std.specs.shelf.Lists.{All, folded}
 use Rattle.std.specs.declared.option.Option.the-variants.{Some}
 use Rattle.cells.specs.Kinds.{Rules}
 use Rattle.rules.specs.declared.calls.Call.{Call}
@@ -77,6 +77,11 @@ module _ {P O : Type 0} where
   abbrev pub copy-of-blocks : List (Block P O) → Copy P O
   copy-of-blocks blocks = folded (λ copy block. then-block copy (block .entry) (block .copy)) empty blocks
 
+  -- no two of these blocks are of the same entry
+  abbrev pub All-differ : List (Block P O) → Type 0
+  All-differ [] = Unit {0}
+  All-differ (block ∷ blocks) = All (λ other. block .entry ≡ other .entry → ⊥) blocks × All-differ blocks
+
   abbrev pub block-if : Bool → Book P O → ℕ → List (Block P O)
   block-if added b e = cond added (record { entry = e; copy = copy-of (b .pages) e } ∷ []) []
 
@@ -117,6 +122,10 @@ pub record Fair-copy-holds {V P O : Type 0} (R : Rules V P O) (first : List V) (
   pub elders-are : (e x : ℕ) → Decides (is-among (elders (s .rows) e) x) (Elder (s .rows) x e)
   -- the fair copy is one unbroken block for each entry that was kept at the top or published, in that order, and nothing else
   pub one-block-each : b .fair ≡ copy-of-blocks blocks
+  -- no entry has two blocks
+  pub each-once : All-differ blocks
+  -- .. and an entry that stands has none
+  pub all-ended : All (λ block. stands (s .rows) (block .entry) ≡ true → ⊥) blocks
 
 -- For all first values, lawful or not, all sizes of the tables, and every history that leads from set-up by steps.
 abbrev pub Fair-copy-law : {V P O : Type 0} → Rules V P O → Type 0
