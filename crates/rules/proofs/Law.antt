@@ -17,7 +17,7 @@ use Rattle.rules.specs.declared.calls.Call.the-variants.{Begin, Post, Keep, Pu
 use Rattle.rules.specs.declared.refusals.Refusal.the-variants.{Unsound}
 use Rattle.rules.specs.Entries.{stands, parent-of, elders}
 use Rattle.rules.specs.Cells.{value-at}
-use Rattle.rules.specs.States.{State, set-up, within, all-lawful, sound-for}
+use Rattle.rules.specs.States.{State, set-up, size-within, all-lawful, sound-for}
 use Rattle.rules.specs.Calls.{Answer, seen, ask, first-no, further-questions, turned-away, taken, unless-refused, step}
 use Rattle.rules.specs.Books.{Copy, then-block, lines-of, Book, new-book, rows-of, begun-number, posting-answer, is-done, if-any, with-begun, with-line, with-fair-block, with-block, with-abandoned, write}
 use Rattle.rules.specs.FairCopy.{Event, book-of, Leads, post-line, Get-their-answers, values-after, lines-down, lines-so-far, Block, block-if, added-by, blocks-added, Fair-copy-holds, Fair-copy-law}
@@ -109,9 +109,9 @@ no-rows = record { zero-free = λ s. false≢true s; falls = λ e s. absurd (fal
 module _ {V P O : Type 0} (R : Rules V P O) (law : CrossingLaw R) (first : List V) (rows lines : ℕ) where
   lawful : sound-for R first rows lines ≡ true → all-lawful R first ≡ true
   lawful y =
-      let a = within (length first) 4096 in
-      let b = within rows 256 in
-      let c = within lines 4096 in
+      let a = size-within (length first) 4096 in
+      let b = size-within rows 256 in
+      let c = size-within lines 4096 in
       let d = all-lawful R first in
       and-parts c d (and-parts b (c && d) (and-parts a (b && (c && d)) y .1) .1) .1
 

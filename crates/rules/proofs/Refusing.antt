@@ -13,7 +13,6 @@ use Rattle.std.specs.declared.option.Option.{Option}
 use Rattle.std.specs.declared.option.Option.the-variants.{Some, None}
 use Rattle.std.specs.declared.result.Result.the-variants.{Ok, Err}
 use Rattle.std.proofs.shelf.Tests.{eqb-true, eqb-false, eq-eqb, ne-eqb, ltb-true, ltb-false, le-ltb, and-parts, and-from, or-cases, or-parts, or-from, or-left, or-right, not-true}
-use Rattle.std.proofs.shelf.Elements.{all-weaker}
 use Rattle.cells.specs.Kinds.{Rules, CrossingLaw}
 use Rattle.rules.specs.declared.lines.Line.{Line}
 use Rattle.rules.specs.declared.calls.Call.{Call}
@@ -25,7 +24,7 @@ use Rattle.rules.specs.Refusals.{number-of, holder-of}
 use Rattle.rules.specs.Entries.{stands, childless, Elder, elders, is-among, is-own-or-elder}
 use Rattle.rules.specs.Cells.{value-at, of-value}
 use Rattle.rules.specs.States.{State}
-use Rattle.rules.specs.Calls.{Answer, Outcome, some-line, earliest-holder, seen, stops-posting, stops-publishing, ask, ask-holder, first-no, further-questions, questions, at-value, taken, unless-refused, step}
+use Rattle.rules.specs.Calls.{Answer, Outcome, some-line, earliest-holder, seen, stops-posting, stops-publishing, ask, ask-holder, first-no, questions, at-value, taken, unless-refused, step}
 use Rattle.rules.specs.TurnedAway.{Among, Earliest, Stops-posting, Stops-publishing, Fails, Refusal-law}
 use Rattle.rules.proofs.Bools.{not-by, false-by}
 use Rattle.rules.proofs.Bare.{some-not-none}

@@ -14,13 +14,14 @@ use Rattle.rules.specs.declared.calls.Reply.the-variants as reply
 use Rattle.rules.specs.Entries.{parent-of, is-own-or-elder}
 use Rattle.rules.specs.Calls.{Answer}
 
--- a line of a copy: what was posted where, and the answer that it got
+-- A line of a copy: what was posted where, and the answer that it got. Its holder is not written: that is the entry whose copy it
+-- stands in.
 pub record Copied (P O : Type 0) : Type 0 where
   pub cell : ℕ
   pub posting : P
   pub answer : O
 
--- a copy is a list of lines and of blocks; a block is the copy of a kept child, under the child's number
+-- A copy is a list of lines and of blocks. A block is the copy of an entry that was kept or published, under its number.
 pub data Copy (P O : Type 0) : Type 0 where
   empty : Copy P O
   then-line : Copy P O → Copied P O → Copy P O

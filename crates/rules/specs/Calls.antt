@@ -163,7 +163,7 @@ module _ {V P : Type 0} where
   abbrev pub turned-away : {O : Type 0} → State V P → Refusal → Outcome V P O
   turned-away s refusal = record { answer = Err refusal; state = s }
 
-  -- what needs the value of a cell has no effect without one, though question 4 comes before it
+  -- question 4 has made sure that there is a value; the other case is here only because `value-at` answers an option
   abbrev pub at-value : {O : Type 0} → State V P → Option V → (V → Outcome V P O) → Outcome V P O
   at-value s None outcome = turned-away s NoSuchCell
   at-value s (Some v) outcome = outcome v

@@ -1,4 +1,4 @@
--- Values in a row of cells, numbered from 0, and postings on them. Assumes nothing.
+-- The values of cells, which are numbered from 0, and postings on them. Assumes nothing.
 use mathlib.Core.List.{List, [], _∷_}
 use Prim.Native.Nat.{ℕ, zero, suc}
 use Rattle.std.specs.declared.option.Option.{Option}

@@ -16,7 +16,7 @@ number-of NoFreeRow = 8
 number-of NoFreeLine = 9
 number-of NoNumberLeft = 10
 
--- the entry that it names: that of the line in the way, and otherwise 0
+-- the holder that it names: at 6 and 7 that of a line which is not crossed, and 0 at every other question
 abbrev pub holder-of : Refusal → ℕ
 holder-of Unsound = 0
 holder-of NotStanding = 0

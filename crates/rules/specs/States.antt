@@ -11,7 +11,7 @@ use Rattle.rules.specs.declared.lines.Line.{Line}
 pub record State (V P : Type 0) : Type 0 where
   -- were the three tables within their sizes at set-up, and all first values lawful?
   pub sound : Bool
-  -- the committed values, one a cell
+  -- the committed values, one for each cell
   pub values : List V
   -- the standing entries, first begun to last begun
   pub rows : List Row
@@ -23,9 +23,9 @@ pub record State (V P : Type 0) : Type 0 where
   pub row-room : ℕ
   pub line-room : ℕ
 
--- from 1 to the most
-abbrev pub within : ℕ → ℕ → Bool
-within n most = ltb 0 n && leb n most
+-- a table has at least one place, and not too many
+abbrev pub size-within : ℕ → ℕ → Bool
+size-within n most = ltb 0 n && leb n most
 
 module _ {V P O : Type 0} (R : Rules V P O) where
   abbrev pub all-lawful : List V → Bool
@@ -34,7 +34,7 @@ module _ {V P O : Type 0} (R : Rules V P O) where
 
   -- 1 to 4,096 cells, 1 to 256 rows, 1 to 4,096 lines, and lawful first values
   abbrev pub sound-for : List V → ℕ → ℕ → Bool
-  sound-for first rows lines = within (length first) 4096 && (within rows 256 && (within lines 4096 && all-lawful first))
+  sound-for first rows lines = size-within (length first) 4096 && (size-within rows 256 && (size-within lines 4096 && all-lawful first))
 
   -- setting up frees all rows and lines and leaves the values
   abbrev pub set-up : List V → ℕ → ℕ → State V P

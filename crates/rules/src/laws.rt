@@ -5,24 +5,27 @@ use cells::kinds::Kind;
 
 /// The fair-copy law holds of every register over cells of this kind.
 ///
-/// A book writes down the calls and their answers, and makes a fair copy of them: each entry that is
-/// kept at the top, or published, is one block, in that order. Whatever the first values and the
-/// sizes of the tables were, and whatever calls were made since set-up: the fair copy, posted line
-/// by line on the first values, gives each line the answer that the register gave, and ends in the
-/// committed values. The lines that an entry's elders and the entry itself have posted so far,
-/// posted next, get their answers too, and come to what the entry sees.
+/// A book is fed the calls with their answers and writes a fair copy of them. Whatever the first
+/// values and the sizes of the tables were, and whatever calls were made since set-up:
+///
+/// - The fair copy, posted line by line on the first values, gives each line the answer that the
+///   register gave, and ends in the committed values.
+/// - For every standing entry, the copies so far of its elders, eldest first, and then its own,
+///   posted next, give each line the answer that the register gave, and leave in every cell the
+///   value that the entry sees there.
+/// - The entries that stand in the book, and their parents, are the register's. Each entry that was
+///   kept at the top or published is one block of the fair copy, in the order in which they were
+///   kept and published, and nothing else is in it.
 pub fn fair_copy_law<K: Kind>(kind: &K)
     ensures { λ _. ⌜ Fair-copy-law (rules (now (kind .entry))) ⌝ }
 {}
 
-/// A register over cells of this kind tells every call that it turns away what the rules say, and
-/// changes nothing for it.
+/// A register over cells of this kind turns a call away for the first question that it fails.
 ///
-/// A posting that meets question 6 is told the holder of the earliest line in its way that it does
-/// not cross, where in its way are the lines on its cell that neither its entry nor an elder holds.
-/// An entry that meets question 7 is told the holder of the earliest of its elders' lines that one
-/// of its own does not cross. Where a posting is taken, or an entry published, there is no such
-/// line. All other refusals name nobody, and an unsound register turns every call away with 1.
+/// Whatever led to where the register stands: a call that is turned away changes nothing, the
+/// refusal is that of a question which the call fails, and the call fails none of a lower number. A
+/// call that is taken fails none at all. Refusals 6 and 7 name the holder of the earliest line for
+/// which the question fails, and all others name 0.
 pub fn refusal_law<K: Kind>(kind: &K)
     ensures { λ _. ⌜ Refusal-law (rules (now (kind .entry))) ⌝ }
 {}

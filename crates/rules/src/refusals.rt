@@ -2,8 +2,8 @@
 ghost use mathlib.Core.Path.{_≡_};
 ghost use Rattle.rules.specs.Refusals.{holder-of, number-of};
 
-/// The first question that a call failed. Numbers are those of the rules; the holder is the entry
-/// that stands in the way, and 0 where the question names none.
+/// The first question that a call failed. At 6 and 7 it carries the holder of the earliest line for
+/// which the question fails.
 #[derive(Clone, Copy, PartialEq, Eq)]
 pub enum Refusal {
     /// 1: a table was out of its size at set-up, or a first value was unlawful.
@@ -47,7 +47,7 @@ impl Refusal {
         }
     }
 
-    /// The holder of the earliest line that made the question fail.
+    /// The holder that the refusal names; 0 at all questions but 6 and 7.
     pub fn holder(self) -> u16
         ensures { λ r. ⌜ r ≡ holder-of self ⌝ }
     {

@@ -1,4 +1,4 @@
-// What a refusal is told to the outside: the number of the question, and a holder.
+// What a refusal tells the caller: the number of the question, and a holder.
 use crate::refusals::Refusal;
 use crate::refusals::RefusalPartialEq;
 use std::test::*;
