@@ -38,8 +38,8 @@ module _ {V X : Type 0} {after : V → X → V} {Right : V → X → Type 0} {Ok
   Out e g m = is-among (elders rows e) (g .holder) ≡ true → own e (m .holder) ≡ true → Cr (m .item) (g .item)
 
   module _ (e : ℕ) (st : stands rows e ≡ true) (ch : childless rows e ≡ true) (out : All (λ g. All (Out e g) table) table) where
-    abbrev lot : List X
-    lot = held (own e) table
+    abbrev own-lines : List X
+    own-lines = held (own e) table
 
     facts : Pairs (λ g m. Ordered Cr rows g m × (Out e g m × Out e m g)) table
     facts = pairs-and (Ordered Cr rows) (λ g m. Out e g m × Out e m g) table (core .frame .order) (pairs-from (Out e) table out)
@@ -48,8 +48,8 @@ module _ {V X : Type 0} {after : V → X → V} {Right : V → X → Type 0} {Ok
     not-own-elder h = let k : e < e = elder-below rows (core .frame .grown) (among-elder rows (core .frame .grown) e e h) in omega arith
 
     -- its own lines may go first among those that it sees
-    lot-first : Same Cr (held (is-own-or-elder rows e) table) (lot ++ held (is-among (elders rows e)) table)
-    lot-first = split (is-own-or-elder rows e) (own e) (is-among (elders rows e))
+    own-first : Same Cr (held (is-own-or-elder rows e) table) (own-lines ++ held (is-among (elders rows e)) table)
+    own-first = split (is-own-or-elder rows e) (own e) (is-among (elders rows e))
         (λ h. parts-by (is-own-or-elder rows e h) (own e h) (is-among (elders rows e) h)
         (λ m. elim (among-cases h e (elders rows e) m) [ inl i ↦ inl (eq-eqb h e i) | inr k ↦ inr k ])
         (λ m. subst (λ y. is-own-or-elder rows e y ≡ true) (sym (eqb-true h e m)) (kin-self rows (core .frame .grown) e))
@@ -59,23 +59,23 @@ module _ {V X : Type 0} {after : V → X → V} {Right : V → X → Type 0} {Ok
         (pairs-weaker (λ g. Okx (g .item)) (λ g m. Ordered Cr rows g m × (Out e g m × Out e m g)) (λ g m. is-among (elders rows e) (g .holder) ≡ true → own e (m .holder) ≡ true → Cr (g .item) (m .item))
         (λ g m og om f b a. laws .symm (m .item) (g .item) (f .1 .0 b a)) table (core .frame .items-ok) facts)
 
-    lot-right : Each-in-turn after Right value lot
-    lot-right = right-front laws value lot (held (is-among (elders rows e)) table) (same-rightly laws lot-first value (core .value-ok) (held-ok (core .frame) (is-own-or-elder rows e)) (core .sees e st))
+    own-right : Each-in-turn after Right value own-lines
+    own-right = right-front laws value own-lines (held (is-among (elders rows e)) table) (same-rightly laws own-first value (core .value-ok) (held-ok (core .frame) (is-own-or-elder rows e)) (core .sees e st))
 
-    lot-ok : All Okx lot
-    lot-ok = held-ok (core .frame) (own e)
+    own-ok : All Okx own-lines
+    own-ok = held-ok (core .frame) (own e)
 
-    copy-is : Same Cr lot (copies e)
+    copy-is : Same Cr own-lines (copies e)
     copy-is = same-sym (laws .symm) (core .copied e st)
 
     abbrev pub committed-value : V
-    committed-value = folded after value lot
+    committed-value = folded after value own-lines
 
     only-own : (f : ℕ) → is-own-or-elder rows f e ≡ true → f ≡ e
     only-own f h = kin-childless rows (core .frame .grown) e f ch h
 
     -- its lines cross all that another sees
-    crosses-seen : (f : ℕ) → (f ≡ e → ⊥) → All (λ x. All (Cr x) (held (is-own-or-elder rows f) table)) lot
+    crosses-seen : (f : ℕ) → (f ≡ e → ⊥) → All (λ x. All (Cr x) (held (is-own-or-elder rows f) table)) own-lines
     crosses-seen f d =
         let apart : (h : ℕ) → own e h ≡ true → is-own-or-elder rows f h ≡ true → ⊥ = λ h a b. d (only-own f (subst (λ y. is-own-or-elder rows f y ≡ true) (eqb-true h e a) b)) in
         cross-held Cr (own e) (is-own-or-elder rows f) apart table
@@ -98,11 +98,11 @@ module _ {V X : Type 0} {after : V → X → V} {Right : V → X → Type 0} {Ok
     pub committed : Core after Right Okv Okx Cr first (rest (others e) rows) (left-of (others e) table) copies committed-value (fair ++ copies e)
     committed = record {
       frame = frame-rest (core .frame) (others e) (closed-others e ch);
-      value-ok = stays-ok laws value lot (core .value-ok) lot-ok;
+      value-ok = stays-ok laws value own-lines (core .value-ok) own-ok;
       sees = λ f s. (let so = stood (others e) rows f s in
           subst (Each-in-turn after Right committed-value) (sym (seen-rest (core .frame) (others e) (closed-others e ch) f (so .1)))
-          (past-all laws lot (held (is-own-or-elder rows f) table) value (core .value-ok) lot-ok (held-ok (core .frame) (is-own-or-elder rows f)) (crosses-seen f (other-not e f (so .1))) (core .sees f (so .0))));
+          (past-all laws own-lines (held (is-own-or-elder rows f) table) value (core .value-ok) own-ok (held-ok (core .frame) (is-own-or-elder rows f)) (crosses-seen f (other-not e f (so .1))) (core .sees f (so .0))));
       copied = λ f s. (let so = stood (others e) rows f s in subst (Same Cr (copies f)) (sym (own-rest (core .frame) (others e) f (so .1))) (core .copied f (so .0)));
-      fair-right = right-append laws first fair (copies e) (core .fair-right) (subst (λ v. Each-in-turn after Right v (copies e)) (sym (core .fair-value)) (same-rightly laws copy-is value (core .value-ok) lot-ok lot-right));
-      fair-value = folded-append after first fair (copies e) ∙ ap (λ v. folded after v (copies e)) (core .fair-value) ∙ sym (same-end laws copy-is value (core .value-ok) lot-ok);
+      fair-right = right-append laws first fair (copies e) (core .fair-right) (subst (λ v. Each-in-turn after Right v (copies e)) (sym (core .fair-value)) (same-rightly laws copy-is value (core .value-ok) own-ok own-right));
+      fair-value = folded-append after first fair (copies e) ∙ ap (λ v. folded after v (copies e)) (core .fair-value) ∙ sym (same-end laws copy-is value (core .value-ok) own-ok);
     }

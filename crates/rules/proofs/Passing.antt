@@ -116,24 +116,24 @@ module _ {V X : Type 0} {after : V → X → V} {Right : V → X → Type 0} {Ok
       lower h = is-own-or-elder rows f h && not (is-own-or-elder rows q h)
 
       module _ (u : is-own-or-elder rows f q ≡ true) where
-        abbrev atop : List X
-        atop = held (is-own-or-elder rows q) table
+        abbrev upper-lines : List X
+        upper-lines = held (is-own-or-elder rows q) table
 
-        abbrev lot : List X
-        lot = held (own e) table
+        abbrev own-lines : List X
+        own-lines = held (own e) table
 
-        abbrev low : List X
-        low = held lower table
+        abbrev lower-lines : List X
+        lower-lines = held lower table
 
-        low-in : (h : ℕ) → lower h ≡ true → is-own-or-elder rows f h ≡ true
-        low-in h l = and-parts (is-own-or-elder rows f h) (not (is-own-or-elder rows q h)) l .0
+        lower-in : (h : ℕ) → lower h ≡ true → is-own-or-elder rows f h ≡ true
+        lower-in h l = and-parts (is-own-or-elder rows f h) (not (is-own-or-elder rows q h)) l .0
 
-        low-out : (h : ℕ) → lower h ≡ true → is-own-or-elder rows q h ≡ true → ⊥
-        low-out h l = not-so (is-own-or-elder rows q h) (and-parts (is-own-or-elder rows f h) (not (is-own-or-elder rows q h)) l .1)
+        lower-out : (h : ℕ) → lower h ≡ true → is-own-or-elder rows q h ≡ true → ⊥
+        lower-out h l = not-so (is-own-or-elder rows q h) (and-parts (is-own-or-elder rows f h) (not (is-own-or-elder rows q h)) l .1)
 
         -- they are neither e's nor its elders'
-        low-apart : (h : ℕ) → lower h ≡ true → is-own-or-elder rows e h ≡ true → ⊥
-        low-apart h l m = elim (cases-kin h m) [ inl i ↦ not-e f h d (low-in h l) (sym i) | inr k ↦ low-out h l k ]
+        lower-apart : (h : ℕ) → lower h ≡ true → is-own-or-elder rows e h ≡ true → ⊥
+        lower-apart h l m = elim (cases-kin h m) [ inl i ↦ not-e f h d (lower-in h l) (sym i) | inr k ↦ lower-out h l k ]
 
         either : (h : ℕ) → is-own-or-elder rows f h ≡ true → (is-own-or-elder rows q h ≡ true) ⊎ (lower h ≡ true)
         either h m = elim (cases-bool (is-own-or-elder rows q h)) [ inl k ↦ inl k | inr k ↦ inr (and-from (is-own-or-elder rows f h) (not (is-own-or-elder rows q h)) m (not-from-false (is-own-or-elder rows q h) k)) ]
@@ -145,15 +145,15 @@ module _ {V X : Type 0} {after : V → X → V} {Right : V → X → Type 0} {Ok
         by-order Z k = pairs-weaker (λ g. Okx (g .item)) (Ordered Cr rows) Z (λ g m og om o. k g m o) table (core .frame .items-ok) (core .frame .order)
 
         -- f saw: the lines of q and above, and then the lower ones
-        saw : Same Cr (held (is-own-or-elder rows f) table) (atop ++ low)
+        saw : Same Cr (held (is-own-or-elder rows f) table) (upper-lines ++ lower-lines)
         saw = split (is-own-or-elder rows f) (is-own-or-elder rows q) lower
-            (λ h. parts-by (is-own-or-elder rows f h) (is-own-or-elder rows q h) (lower h) (either h) (above-in h) (low-in h) (λ a b. low-out h b a))
+            (λ h. parts-by (is-own-or-elder rows f h) (is-own-or-elder rows q h) (lower h) (either h) (above-in h) (lower-in h) (λ a b. lower-out h b a))
             table
             (by-order (λ g m. lower (g .holder) ≡ true → is-own-or-elder rows q (m .holder) ≡ true → Cr (g .item) (m .item))
-            (λ g m o b a. elim o [ inl c ↦ c | inr h ↦ absurd (low-out (g .holder) b (kin-trans rows grown q (m .holder) (g .holder) a h)) ]))
+            (λ g m o b a. elim o [ inl c ↦ c | inr h ↦ absurd (lower-out (g .holder) b (kin-trans rows grown q (m .holder) (g .holder) a h)) ]))
 
         -- e saw: the lines of q and above, and then its own
-        e-saw : Same Cr (held (is-own-or-elder rows e) table) (atop ++ lot)
+        e-saw : Same Cr (held (is-own-or-elder rows e) table) (upper-lines ++ own-lines)
         e-saw = split (is-own-or-elder rows e) (is-own-or-elder rows q) (own e)
             (λ h. parts-by (is-own-or-elder rows e h) (is-own-or-elder rows q h) (own e h)
             (λ m. elim (cases-kin h m) [ inl i ↦ inr (eq-eqb h e (sym i)) | inr k ↦ inl k ])
@@ -165,7 +165,7 @@ module _ {V X : Type 0} {after : V → X → V} {Right : V → X → Type 0} {Ok
             (λ g m o b a. elim o [ inl c ↦ c | inr h ↦ absurd (not-e q (m .holder) ne a (kin-childless rows grown e (m .holder) ch (subst (λ y. is-own-or-elder rows (m .holder) y ≡ true) (eqb-true (g .holder) e b) h))) ]))
 
         -- f sees: what e saw, and then the lower ones
-        sight-splits : Same Cr (held sight table) (held (is-own-or-elder rows e) table ++ low)
+        sight-splits : Same Cr (held sight table) (held (is-own-or-elder rows e) table ++ lower-lines)
         sight-splits = split sight (is-own-or-elder rows e) lower
             (λ h. parts-by (sight h) (is-own-or-elder rows e h) (lower h)
             (λ m. elim (cases-eq h e) [
@@ -176,42 +176,42 @@ module _ {V X : Type 0} {after : V → X → V} {Right : V → X → Type 0} {Ok
               | inl i ↦ subst (λ y. is-own-or-elder rows f y ≡ true) (sym (heir-own e q h (sym i))) u
               | inr k ↦ subst (λ y. is-own-or-elder rows f y ≡ true) (sym (heir-other e q h (not-e q h ne k))) (above-in h k)
             ])
-            (λ m. subst (λ y. is-own-or-elder rows f y ≡ true) (sym (heir-other e q h (not-e f h d (low-in h m)))) (low-in h m))
-            (λ a b. low-apart h b a))
+            (λ m. subst (λ y. is-own-or-elder rows f y ≡ true) (sym (heir-other e q h (not-e f h d (lower-in h m)))) (lower-in h m))
+            (λ a b. lower-apart h b a))
             table
             (by-order (λ g m. lower (g .holder) ≡ true → is-own-or-elder rows e (m .holder) ≡ true → Cr (g .item) (m .item))
-            (λ g m o b a. elim o [ inl c ↦ c | inr h ↦ absurd (low-apart (g .holder) b (kin-trans rows grown e (m .holder) (g .holder) a h)) ]))
+            (λ g m o b a. elim o [ inl c ↦ c | inr h ↦ absurd (lower-apart (g .holder) b (kin-trans rows grown e (m .holder) (g .holder) a h)) ]))
 
-        low-crossed : All (λ x. All (Cr x) low) lot
-        low-crossed = cross-held Cr (own e) lower (λ h a b. not-e f h d (low-in h b) (eqb-true h e a)) table
+        lower-crossed : All (λ x. All (Cr x) lower-lines) own-lines
+        lower-crossed = cross-held Cr (own e) lower (λ h a b. not-e f h d (lower-in h b) (eqb-true h e a)) table
             (by-order (Crosses-both Cr (own e) lower)
             (λ g m o. (
               λ a b. elim o [
                 | inl c ↦ c
-                | inr h ↦ absurd (not-e f (m .holder) d (low-in (m .holder) b) (kin-childless rows grown e (m .holder) ch (subst (λ y. is-own-or-elder rows (m .holder) y ≡ true) (eqb-true (g .holder) e a) h)))
+                | inr h ↦ absurd (not-e f (m .holder) d (lower-in (m .holder) b) (kin-childless rows grown e (m .holder) ch (subst (λ y. is-own-or-elder rows (m .holder) y ≡ true) (eqb-true (g .holder) e a) h)))
               ],
               λ b a. elim o [
                 | inl c ↦ laws .symm (g .item) (m .item) c
-                | inr h ↦ absurd (low-apart (g .holder) b (subst (λ y. is-own-or-elder rows y (g .holder) ≡ true) (eqb-true (m .holder) e a) h))
+                | inr h ↦ absurd (lower-apart (g .holder) b (subst (λ y. is-own-or-elder rows y (g .holder) ≡ true) (eqb-true (m .holder) e a) h))
               ],
             )))
 
-        sight-is-three : Same Cr (held sight table) (atop ++ (lot ++ low))
-        sight-is-three = same-trans sight-splits (subst (λ l. Same Cr (held (is-own-or-elder rows e) table ++ low) l) (append-assoc atop lot low) (same-right low e-saw))
+        sight-is-three : Same Cr (held sight table) (upper-lines ++ (own-lines ++ lower-lines))
+        sight-is-three = same-trans sight-splits (subst (λ l. Same Cr (held (is-own-or-elder rows e) table ++ lower-lines) l) (append-assoc upper-lines own-lines lower-lines) (same-right lower-lines e-saw))
 
         abbrev mid : V
-        mid = folded after value atop
+        mid = folded after value upper-lines
 
         sees-under : Each-in-turn after Right value (held sight table)
         sees-under =
             let ok = core .value-ok in
             let fe = same-rightly laws e-saw value ok (held-ok (core .frame) (is-own-or-elder rows e)) (core .sees e st) in
             let ff = same-rightly laws saw value ok (held-ok (core .frame) (is-own-or-elder rows f)) (core .sees f sf) in
-            let mid-ok = stays-ok laws value atop ok (held-ok (core .frame) (is-own-or-elder rows q)) in
-            let lots = right-back laws value atop lot fe in
-            let lows = past-all laws lot low mid mid-ok (held-ok (core .frame) (own e)) (held-ok (core .frame) lower) low-crossed (right-back laws value atop low ff) in
+            let mid-ok = stays-ok laws value upper-lines ok (held-ok (core .frame) (is-own-or-elder rows q)) in
+            let own-right = right-back laws value upper-lines own-lines fe in
+            let lower-right = past-all laws own-lines lower-lines mid mid-ok (held-ok (core .frame) (own e)) (held-ok (core .frame) lower) lower-crossed (right-back laws value upper-lines lower-lines ff) in
             same-rightly laws (same-sym (laws .symm) sight-is-three) value ok (same-all Okx sight-is-three (held-ok (core .frame) sight))
-            (right-append laws value atop (lot ++ low) (right-front laws value atop lot fe) (right-append laws mid lot low lots lows))
+            (right-append laws value upper-lines (own-lines ++ lower-lines) (right-front laws value upper-lines own-lines fe) (right-append laws mid own-lines lower-lines own-right lower-right))
 
       sees-after : Each-in-turn after Right value (held (is-own-or-elder left f) passed-table)
       sees-after = subst (Each-in-turn after Right value) (sym sight-is) (elim (cases-bool (is-own-or-elder rows f q)) [ inl u ↦ sees-under u | inr a ↦ sees-apart a ])
