@@ -1,6 +1,6 @@
 -- The register's lines are those of a table of held lines without their answers; so what is done to the one is done to the other,
 -- and what a question finds in the one it finds in the other.
-use mathlib.Core.Path.{_≡_, refl, ap, subst}
+use mathlib.Core.Path.{_≡_, refl, ap}
 use mathlib.Core.List.{List, [], _∷_, map}
 use mathlib.Core.Bool.{Bool, true, false, cond}
 use Prim.Native.Nat.{ℕ}
@@ -14,14 +14,8 @@ use Rattle.rules.specs.Books.{Copied}
 use Rattle.rules.proofs.Holdings.{Held, renamed}
 use Rattle.rules.proofs.Standing.{left-of}
 use Rattle.rules.proofs.Passing.{heir}
+use Rattle.rules.proofs.Options.{some-not-none}
 use Rattle.rules.proofs.Stores.{bare}
-
-abbrev Is-some : {X : Type 0} → Option X → Type 0
-Is-some None = ⊥
-Is-some (Some x) = Unit {0}
-
-pub some-not-none : {X : Type 0} (x : X) → Some x ≡ None → ⊥
-some-not-none x h = subst Is-some h tt
 
 -- ---- no line passes a test
 

@@ -1,5 +1,6 @@
 mod Exchanges
 mod Bools
+mod Options
 mod Pairs
 mod Holdings
 mod Kinship
@@ -17,4 +18,7 @@ mod Upheld
 mod Steps
 mod Once
 pub mod Law
+mod FirstNo
+mod Outcomes
+mod EarliestLines
 pub mod Refusing

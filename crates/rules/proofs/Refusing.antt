@@ -1,18 +1,17 @@
--- What a refusal says of the lines, from the questions that a call was asked.
-use mathlib.Core.Path.{_≡_, refl, sym, ap, subst, _∙_}
-use mathlib.Core.List.{List, [], _∷_, _++_}
-use mathlib.Core.Bool.{Bool, true, false, cond, not, _&&_, _||_, false≢true}
-use mathlib.Core.Logic.{_⊎_, inl, inr}
-use Prim.Native.Nat.{ℕ, zero, suc, _<_, _≤_}
+-- What every refusal says: each question asks what it means, and so the first no is the first question that the call fails.
+use mathlib.Core.Path.{_≡_, refl, sym, ap, _∙_}
+use mathlib.Core.List.{List, [], _∷_}
+use mathlib.Core.Bool.{Bool, true, false, not, _&&_, _||_, false≢true}
+use mathlib.Core.Logic.{inl, inr}
+use Prim.Native.Nat.{ℕ, _<_, _≤_}
 use native.Mathlib.Omega.{arith}
 use lib.ListN.{length}
 use lib.Dec.{eqb, ltb}
 use Rattle.std.specs.Orderings.{Decides}
-use Rattle.std.specs.shelf.Lists.{All}
 use Rattle.std.specs.declared.option.Option.{Option}
-use Rattle.std.specs.declared.option.Option.the-variants.{Some, None}
+use Rattle.std.specs.declared.option.Option.the-variants.{Some}
 use Rattle.std.specs.declared.result.Result.the-variants.{Ok, Err}
-use Rattle.std.proofs.shelf.Tests.{eqb-true, eqb-false, eq-eqb, ne-eqb, ltb-true, ltb-false, le-ltb, and-parts, and-from, or-cases, or-parts, or-from, or-left, or-right, not-true}
+use Rattle.std.proofs.shelf.Tests.{eqb-true, eqb-false, eq-eqb, ne-eqb, ltb-false, le-ltb, and-parts, and-from, or-cases, or-parts, or-from, or-left, or-right, not-true}
 use Rattle.cells.specs.Kinds.{Rules, CrossingLaw}
 use Rattle.rules.specs.declared.lines.Line.{Line}
 use Rattle.rules.specs.declared.calls.Call.{Call}
@@ -22,207 +21,14 @@ use Rattle.rules.specs.declared.refusals.Refusal.{Refusal}
 use Rattle.rules.specs.declared.refusals.Refusal.the-variants.{Unsound, NotStanding, HasChild, NoSuchCell, UnlawfulPosting, InTheWay, HeldByElder, NoFreeRow, NoFreeLine, NoNumberLeft}
 use Rattle.rules.specs.Refusals.{number-of, holder-of}
 use Rattle.rules.specs.Entries.{stands, childless, Elder, elders, is-among, is-own-or-elder}
-use Rattle.rules.specs.Cells.{value-at, of-value}
 use Rattle.rules.specs.States.{State}
-use Rattle.rules.specs.Calls.{Answer, Outcome, some-line, earliest-holder, seen, stops-posting, stops-publishing, ask, ask-holder, first-no, questions, at-value, taken, unless-refused, step}
-use Rattle.rules.specs.TurnedAway.{Among, Earliest, Stops-posting, Stops-publishing, Fails, Refusal-law}
-use Rattle.rules.proofs.Bools.{not-by, false-by}
-use Rattle.rules.proofs.Bare.{some-not-none}
+use Rattle.rules.specs.Calls.{some-line, earliest-holder, stops-posting, stops-publishing, ask, ask-holder, first-no, questions, taken, step}
+use Rattle.rules.specs.TurnedAway.{Earliest, Stops-posting, Stops-publishing, Fails, Refusal-law}
+use Rattle.rules.proofs.Bools.{not-by}
+use Rattle.rules.proofs.FirstNo.{Tell-each, ask-tells, holder-tells, first-says, rise, Is-said, first-least, none-said}
+use Rattle.rules.proofs.Outcomes.{refused-by, taken-by, taken-leaves, taken-fails, leaves-by}
+use Rattle.rules.proofs.EarliestLines.{some-among, among-some, earliest-is, earliest-found}
 use Rattle.rules.proofs.Law.{fair-copy-law}
-
--- ---- answers
-
-abbrev some-or : {X : Type 0} → X → Option X → X
-some-or x None = x
-some-or x (Some y) = y
-
-some-same : {X : Type 0} {x y : X} → Some x ≡ Some y → x ≡ y
-some-same {X} {x} h = ap (some-or x) h
-
-abbrev refusal-or : {V O : Type 0} → Refusal → Answer V O → Refusal
-refusal-or r (Ok reply) = r
-refusal-or r (Err refusal) = refusal
-
-abbrev Is-taken : {V O : Type 0} → Answer V O → Type 0
-Is-taken (Ok reply) = Unit {0}
-Is-taken (Err refusal) = ⊥
-
-taken-not-refused : {V O : Type 0} (reply : Reply V O) (refusal : Refusal) → Ok reply ≡ Err refusal → ⊥
-taken-not-refused reply refusal h = subst Is-taken h tt
-
--- ---- the first no
-
-module _ (No : Refusal → Type 0) where
-  -- a question of number n, if answered no, says a refusal of that number which holds
-  abbrev Tells : Option Refusal → ℕ → Type 0
-  Tells q n = (refusal : Refusal) → q ≡ Some refusal → (number-of refusal ≡ n) × No refusal
-
-  ask-tells : (b : Bool) (r : Refusal) → (b ≡ false → No r) → Tells (ask b r) (number-of r)
-  ask-tells true r f refusal h = absurd (some-not-none refusal (sym h))
-  ask-tells false r f refusal h = subst (λ x. (number-of x ≡ number-of r) × No x) (some-same h) (refl, f refl)
-
-  holder-tells : (o : Option ℕ) (r : ℕ → Refusal) (n : ℕ) → ((h : ℕ) → number-of (r h) ≡ n) → ((h : ℕ) → o ≡ Some h → No (r h)) → Tells (ask-holder o r) n
-  holder-tells None r n number f refusal h = absurd (some-not-none refusal (sym h))
-  holder-tells (Some holder) r n number f refusal h = subst (λ x. (number-of x ≡ n) × No x) (some-same h) (number holder, f holder refl)
-
-  abbrev Tell-each : List (Option Refusal) → List ℕ → Type 0
-  Tell-each [] [] = Unit {0}
-  Tell-each [] (n ∷ ns) = ⊥
-  Tell-each (q ∷ qs) [] = ⊥
-  Tell-each (q ∷ qs) (n ∷ ns) = Tells q n × Tell-each qs ns
-
-  first-says : (qs : List (Option Refusal)) (ns : List ℕ) → Tell-each qs ns → (refusal : Refusal) → first-no qs ≡ Some refusal → No refusal
-  first-says [] ns tell refusal h = absurd (some-not-none refusal (sym h))
-  first-says (q ∷ qs) [] tell refusal h = absurd tell
-  first-says (None ∷ qs) (n ∷ ns) tell refusal h = first-says qs ns (tell .1) refusal h
-  first-says (Some r ∷ qs) (n ∷ ns) tell refusal h = tell .0 refusal h .1
-
--- numbers that rise
-abbrev is-below : ℕ → List ℕ → Bool
-is-below n [] = true
-is-below n (m ∷ ms) = ltb n m && is-below n ms
-
-abbrev rise : List ℕ → Bool
-rise [] = true
-rise (n ∷ ns) = is-below n ns && rise ns
-
--- one of the questions is answered no, and says so
-abbrev Is-said : Refusal → List (Option Refusal) → Type 0
-Is-said refusal [] = ⊥
-Is-said refusal (q ∷ qs) = (q ≡ Some refusal) ⊎ Is-said refusal qs
-
-said-later : (No : Refusal → Type 0) (n : ℕ) (qs : List (Option Refusal)) (ns : List ℕ) → Tell-each No qs ns → is-below n ns ≡ true → (other : Refusal) → Is-said other qs → n < number-of other
-said-later No n [] ns tell below other said = absurd said
-said-later No n (q ∷ qs) [] tell below other said = absurd tell
-said-later No n (q ∷ qs) (m ∷ ms) tell below other said =
-    let belows = and-parts (ltb n m) (is-below n ms) below in
-    elim said [
-      | inl h ↦ (let is : number-of other ≡ m = tell .0 other h .0 in let l : n < m = ltb-true n m (belows .0) in omega arith)
-      | inr later ↦ said-later No n qs ms (tell .1) (belows .1) other later
-    ]
-
--- the first no has the least number
-first-least : (No : Refusal → Type 0) (qs : List (Option Refusal)) (ns : List ℕ) → Tell-each No qs ns → rise ns ≡ true → (other : Refusal) → Is-said other qs → (refusal : Refusal) → first-no qs ≡ Some refusal → number-of refusal ≤ number-of other
-first-least No [] ns tell rises other said refusal h = absurd said
-first-least No (q ∷ qs) [] tell rises other said refusal h = absurd tell
-first-least No (None ∷ qs) (n ∷ ns) tell rises other said refusal h = elim said [
-  | inl e ↦ absurd (some-not-none other (sym e))
-  | inr later ↦ first-least No qs ns (tell .1) (and-parts (is-below n ns) (rise ns) rises .1) other later refusal h
-]
-first-least No (Some r ∷ qs) (n ∷ ns) tell rises other said refusal h =
-    let first-is : number-of refusal ≡ n = tell .0 refusal h .0 in
-    elim said [
-      | inl e ↦ (let other-is : number-of other ≡ n = tell .0 other e .0 in omega arith)
-      | inr later ↦ (let l : n < number-of other = said-later No n qs ns (tell .1) (and-parts (is-below n ns) (rise ns) rises .0) other later in omega arith)
-    ]
-
-none-said : (qs : List (Option Refusal)) → first-no qs ≡ None → (refusal : Refusal) → Is-said refusal qs → ⊥
-none-said [] h refusal said = said
-none-said (None ∷ qs) h refusal said = elim said [ inl e ↦ some-not-none refusal (sym e) | inr later ↦ none-said qs h refusal later ]
-none-said (Some r ∷ qs) h refusal said = some-not-none r h
-
--- ---- what a call is told
-
-value-past : {V : Type 0} (vs : List V) (c : ℕ) → value-at vs c ≡ None → length vs ≤ c
-value-past [] c h = omega arith
-value-past (v ∷ vs) zero h = absurd (some-not-none v h)
-value-past (v ∷ vs) (suc c) h = let l : length vs ≤ c = value-past vs c h in omega arith
-
-of-none : {V W : Type 0} (f : V → W) (o : Option V) → of-value f o ≡ None → o ≡ None
-of-none f None h = refl
-of-none f (Some v) h = absurd (some-not-none (f v) h)
-
-module _ {V P O : Type 0} (R : Rules V P O) (s : State V P) where
-  refused-by : (o : Option Refusal) (outcome : Outcome V P O) (refusal : Refusal) → unless-refused R s o outcome .answer ≡ Err refusal → (o ≡ Some refusal) ⊎ ((o ≡ None) × (outcome .answer ≡ Err refusal))
-  refused-by None outcome refusal h = inr (refl, h)
-  refused-by (Some r) outcome refusal h = inl (ap (λ a. Some (refusal-or r a)) h)
-
-  taken-by : (o : Option Refusal) (outcome : Outcome V P O) (reply : Reply V O) → unless-refused R s o outcome .answer ≡ Ok reply → o ≡ None
-  taken-by None outcome reply h = refl
-  taken-by (Some r) outcome reply h = absurd (taken-not-refused reply r (sym h))
-
-  -- an effect is refused only where it needs the value of a cell that there is not
-  value-refused : (o : Option V) (outcome : V → Outcome V P O) (refusal : Refusal) → ((v : V) → outcome v .answer ≡ Err refusal → ⊥)
-      → at-value s o outcome .answer ≡ Err refusal → (at-value s o outcome .state ≡ s) × ((NoSuchCell ≡ refusal) × (o ≡ None))
-  value-refused None outcome refusal never h = (refl, (ap (refusal-or refusal) h, refl))
-  value-refused (Some v) outcome refusal never h = absurd (never v h)
-
-  taken-leaves : (call : Call P) (refusal : Refusal) → taken R s call .answer ≡ Err refusal → taken R s call .state ≡ s
-  taken-leaves (Begin q) refusal h = absurd (taken-not-refused _ refusal h)
-  taken-leaves (Post e c p) refusal h = value-refused (seen R s e c) (λ v. _) refusal (λ v k. taken-not-refused _ refusal k) h .0
-  taken-leaves (Keep e) refusal h = absurd (taken-not-refused _ refusal h)
-  taken-leaves (Publish e) refusal h = absurd (taken-not-refused _ refusal h)
-  taken-leaves (Abandon e) refusal h = absurd (taken-not-refused _ refusal h)
-  taken-leaves (Value c) refusal h = value-refused (value-at (s .values) c) (λ v. _) refusal (λ v k. taken-not-refused _ refusal k) h .0
-
-  taken-fails : (call : Call P) (refusal : Refusal) → taken R s call .answer ≡ Err refusal → Fails R s refusal call
-  taken-fails (Begin q) refusal h = absurd (taken-not-refused _ refusal h)
-  taken-fails (Post e c p) refusal h =
-      let why = value-refused (seen R s e c) (λ v. _) refusal (λ v k. taken-not-refused _ refusal k) h .1 in
-      subst (λ r. Fails R s r (Post e c p)) (why .0) (value-past (s .values) c (of-none _ (value-at (s .values) c) (why .1)))
-  taken-fails (Keep e) refusal h = absurd (taken-not-refused _ refusal h)
-  taken-fails (Publish e) refusal h = absurd (taken-not-refused _ refusal h)
-  taken-fails (Abandon e) refusal h = absurd (taken-not-refused _ refusal h)
-  taken-fails (Value c) refusal h =
-      let why = value-refused (value-at (s .values) c) (λ v. _) refusal (λ v k. taken-not-refused _ refusal k) h .1 in
-      subst (λ r. Fails R s r (Value c)) (why .0) (value-past (s .values) c (why .1))
-
-  leaves-by : (o : Option Refusal) (outcome : Outcome V P O) (refusal : Refusal) → (outcome .answer ≡ Err refusal → outcome .state ≡ s) → unless-refused R s o outcome .answer ≡ Err refusal → unless-refused R s o outcome .state ≡ s
-  leaves-by None outcome refusal leaves h = leaves h
-  leaves-by (Some r) outcome refusal leaves h = refl
-
--- ---- lines
-
-module _ {P : Type 0} where
-  abbrev among-first : (x : Line P) (xs : List (Line P)) → Among x (x ∷ xs)
-  among-first x xs = record { before = []; after = xs; is-there = refl }
-
-  abbrev among-later : (x y : Line P) (xs : List (Line P)) → Among x xs → Among x (y ∷ xs)
-  among-later x y xs a = record { before = y ∷ a .before; after = a .after; is-there = ap (λ l. y ∷ l) (a .is-there) }
-
-  some-among : (test : Line P → Bool) (ls : List (Line P)) → some-line test ls ≡ true → (l : Line P) × Among l ls × (test l ≡ true)
-  some-among test [] h = absurd (false≢true h)
-  some-among test (l ∷ ls) h = elim (or-cases (test l) (some-line test ls) h) [
-    | inl t ↦ (l, among-first l ls, t)
-    | inr u ↦ (let found = some-among test ls u in (found .0, among-later (found .0) l ls (found .1), found .2))
-  ]
-
-  some-at : (test : Line P → Bool) (before after : List (Line P)) (l : Line P) → test l ≡ true → some-line test (before ++ (l ∷ after)) ≡ true
-  some-at test [] after l t = or-left (test l) (some-line test after) t
-  some-at test (x ∷ before) after l t = or-right (test x) (some-line test (before ++ (l ∷ after))) (some-at test before after l t)
-
-  among-some : (test : Line P → Bool) (ls : List (Line P)) (l : Line P) → Among l ls → test l ≡ true → some-line test ls ≡ true
-  among-some test ls l a t = subst (λ xs. some-line test xs ≡ true) (sym (a .is-there)) (some-at test (a .before) (a .after) l t)
-
-  -- the earliest line that passes a test is the earliest of which the test says so
-  module _ (test : Line P → Bool) (Q : Line P → Type 0) (decides : (l : Line P) → Decides (test l) (Q l)) where
-    earliest-cond : (b : Bool) (l : Line P) (ls : List (Line P)) (h : ℕ) → test l ≡ b → (earliest-holder test ls ≡ Some h → Earliest Q ls h) → cond b (Some (l .holder)) (earliest-holder test ls) ≡ Some h → Earliest Q (l ∷ ls) h
-    earliest-cond true l ls h t later e = record { line = l; place = among-first l ls; has-it = decides l .0 t; none-before = tt; its-holder = some-same e }
-    earliest-cond false l ls h t later e =
-        let found = later e in
-        record {
-          line = found .line;
-          place = among-later (found .line) l ls (found .place);
-          has-it = found .has-it;
-          none-before = (λ q. false≢true (sym t ∙ decides l .1 q), found .none-before);
-          its-holder = found .its-holder;
-        }
-
-    earliest-is : (ls : List (Line P)) (h : ℕ) → earliest-holder test ls ≡ Some h → Earliest Q ls h
-    earliest-is [] h e = absurd (some-not-none h (sym e))
-    earliest-is (l ∷ ls) h e = earliest-cond (test l) l ls h refl (earliest-is ls h) e
-
-    found-at : (before after : List (Line P)) (l : Line P) → All (λ m. Q m → ⊥) before → Q l → earliest-holder test (before ++ (l ∷ after)) ≡ Some (l .holder)
-    found-at [] after l none q = ap (λ b. cond b (Some (l .holder)) (earliest-holder test after)) (decides l .1 q)
-    found-at (m ∷ before) after l none q =
-        ap (λ b. cond b (Some (m .holder)) (earliest-holder test (before ++ (l ∷ after)))) (false-by (test m) (λ t. none .0 (decides m .0 t)))
-        ∙ found-at before after l (none .1) q
-
-    earliest-found : (ls : List (Line P)) (h : ℕ) → Earliest Q ls h → earliest-holder test ls ≡ Some h
-    earliest-found ls h e =
-        ap (earliest-holder test) (e .place .is-there)
-        ∙ found-at (e .place .before) (e .place .after) (e .line) (e .none-before) (e .has-it)
-        ∙ ap (λ x. Some x) (e .its-holder)
 
 -- ---- questions 6 and 7
 

@@ -6,8 +6,7 @@ use mathlib.Core.Logic.{_⊎_, inl, inr}
 use Prim.Native.Nat.{ℕ, zero, suc}
 use lib.Dec.{eqb}
 use Rattle.std.specs.shelf.Lists.{kept-by, folded}
-use Rattle.std.specs.declared.option.Option.{Option}
-use Rattle.std.specs.declared.option.Option.the-variants.{Some, None}
+use Rattle.std.specs.declared.option.Option.the-variants.{Some}
 use Rattle.std.proofs.shelf.Tests.{eqb-true, eqb-false, cases-eq, and-parts, and-from}
 use Rattle.cells.specs.Kinds.{Rules, CrossingLaw}
 use Rattle.cells.specs.Sequences.{after-all}
@@ -18,18 +17,11 @@ use Rattle.rules.specs.Calls.{commit, held-by}
 use Rattle.rules.specs.Books.{Copied}
 use Rattle.rules.specs.FairCopy.{post-line, Gets-its-answer}
 use Rattle.rules.proofs.Exchanges.{Laws}
+use Rattle.rules.proofs.Options.{of-value-same, of-value-twice}
 use Rattle.rules.proofs.Holdings.{Held, held}
 use Rattle.rules.proofs.Standing.{own}
 
 -- ---- one cell
-
-of-value-same : {V : Type 0} (o : Option V) → o ≡ of-value (λ v. v) o
-of-value-same None = refl
-of-value-same (Some v) = refl
-
-of-value-twice : {V W Z : Type 0} (f : W → Z) (g : V → W) (o : Option V) → of-value f (of-value g o) ≡ of-value (λ v. f (g v)) o
-of-value-twice f g None = refl
-of-value-twice f g (Some v) = refl
 
 value-same : {V : Type 0} (f : V → V) (vs : List V) (c : ℕ) → value-at (change-at f vs c) c ≡ of-value f (value-at vs c)
 value-same f [] c = refl

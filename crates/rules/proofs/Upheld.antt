@@ -19,7 +19,7 @@ use Rattle.rules.specs.FairCopy.{post-line, Gets-its-answer}
 use Rattle.rules.proofs.Holdings.{Held}
 use Rattle.rules.proofs.Standing.{Core}
 use Rattle.rules.proofs.Stores.{Lawful-values, Lawful-line, Crosses, bare}
-use Rattle.rules.proofs.Bare.{some-not-none}
+use Rattle.rules.proofs.Options.{some-not-none}
 
 -- the lines of an entry's copy
 abbrev pub lines-at : {P O : Type 0} → Book P O → ℕ → List (Copied P O)
