@@ -9,11 +9,10 @@ use Rattle.std.specs.declared.option.Option.{Option}
 use Rattle.std.specs.declared.option.Option.the-variants.{Some, None}
 use Rattle.std.proofs.shelf.Tests.{or-parts}
 use Rattle.rules.specs.declared.lines.Line.{Line}
-use Rattle.rules.specs.Calls.{pass-on, some-line, earliest-holder}
+use Rattle.rules.specs.Calls.{holder-after, pass-on, some-line, earliest-holder}
 use Rattle.rules.specs.Books.{Copied}
 use Rattle.rules.proofs.Holdings.{Held, renamed}
 use Rattle.rules.proofs.Standing.{left-of}
-use Rattle.rules.proofs.Passing.{heir}
 use Rattle.rules.proofs.Options.{some-not-none}
 use Rattle.rules.proofs.Stores.{bare}
 
@@ -43,9 +42,9 @@ module _ {P O : Type 0} where
   kept-bare k [] = refl
   kept-bare k (g ∷ gs) = kept-cond (k (g .holder)) g (kept-by (λ l. k (l .holder)) (map bare gs)) (left-of k gs) (kept-bare k gs)
 
-  pub passed-bare : (e q : ℕ) (gs : List (Held (Copied P O))) → pass-on e q (map bare gs) ≡ map bare (renamed (heir e q) gs)
+  pub passed-bare : (e q : ℕ) (gs : List (Held (Copied P O))) → pass-on e q (map bare gs) ≡ map bare (renamed (holder-after e q) gs)
   passed-bare e q [] = refl
-  passed-bare e q (g ∷ gs) = ap (λ w. bare (record { holder = heir e q (g .holder); item = g .item }) ∷ w) (passed-bare e q gs)
+  passed-bare e q (g ∷ gs) = ap (λ w. bare (record { holder = holder-after e q (g .holder); item = g .item }) ∷ w) (passed-bare e q gs)
 
   pub all-bare : (Q : Line P → Type 0) (gs : List (Held (Copied P O))) → All Q (map bare gs) → All (λ g. Q (bare g)) gs
   all-bare Q [] a = tt

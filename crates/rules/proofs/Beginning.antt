@@ -18,8 +18,8 @@ use Rattle.rules.proofs.Holdings.{Held, held, held-agree, held-none}
 use Rattle.rules.proofs.Kinship.{joined, joined-old, joined-cases, elders-joined, grown-joined, elders-new-top, elders-new-inner}
 use Rattle.rules.proofs.Standing.{Core, own, Ordered}
 
-module _ {V X : Type 0} {after : V → X → V} {Right : V → X → Type 0} {Okv : V → Type 0} {Okx : X → Type 0} {Cr : X → X → Type 0}
-    {first : V} {rows : List Row} {table : List (Held X)} {copies : ℕ → List X} {value : V} {fair : List X} (core : Core after Right Okv Okx Cr first rows table copies value fair) where
+module _ {V X : Type 0} {after : V → X → V} {Right : V → X → Type 0} {Ok-value : V → Type 0} {Ok-item : X → Type 0} {Cross : X → X → Type 0}
+    {first : V} {rows : List Row} {table : List (Held X)} {copies : ℕ → List X} {value : V} {fair : List X} (core : Core after Right Ok-value Ok-item Cross first rows table copies value fair) where
   module _ (n q : ℕ) (above : (e : ℕ) → stands rows e ≡ true → e < n) (positive : 0 < n) (under : (q ≡ 0) ⊎ (stands rows q ≡ true)) where
     abbrev grown-rows : List Row
     grown-rows = joined rows n q above
@@ -47,13 +47,13 @@ module _ {V X : Type 0} {after : V → X → V} {Right : V → X → Type 0} {Ok
     sees-by (inl z) = subst (Each-in-turn after Right value) (sym (new-sees [] (elders-new-top rows n q above (core .frame .grown) positive under z) ∙ held-none table)) tt
     sees-by (inr s) = subst (Each-in-turn after Right value) (sym (new-sees (q ∷ elders rows q) (elders-new-inner rows n q above (core .frame .grown) positive under s))) (core .sees q s)
 
-    pub began : Core after Right Okv Okx Cr first grown-rows table begun-copies value fair
+    pub began : Core after Right Ok-value Ok-item Cross first grown-rows table begun-copies value fair
     began = record {
       frame = record {
         grown = grown-joined rows n q above (core .frame .grown) positive under;
         holders = all-weaker (λ g. stands rows (g .holder) ≡ true) (λ g. stands grown-rows (g .holder) ≡ true) (λ g s. joined-old rows n q above (g .holder) s) table (core .frame .holders);
         items-ok = core .frame .items-ok;
-        order = pairs-weaker (λ g. stands rows (g .holder) ≡ true) (Ordered Cr rows) (Ordered Cr grown-rows) (λ g m sg sm o. elim o [ inl c ↦ inl c | inr h ↦ inr (same-kin (m .holder) sm (g .holder) ∙ h) ]) table (core .frame .holders) (core .frame .order);
+        order = pairs-weaker (λ g. stands rows (g .holder) ≡ true) (Ordered Cross rows) (Ordered Cross grown-rows) (λ g m sg sm o. elim o [ inl c ↦ inl c | inr h ↦ inr (same-kin (m .holder) sm (g .holder) ∙ h) ]) table (core .frame .holders) (core .frame .order);
       };
       value-ok = core .value-ok;
       sees = λ e s. elim (joined-cases rows n q above e s) [
@@ -61,8 +61,8 @@ module _ {V X : Type 0} {after : V → X → V} {Right : V → X → Type 0} {Ok
         | inr t ↦ subst (λ l. Each-in-turn after Right value (held (is-among (e ∷ l)) table)) (sym (elders-joined rows n q above (core .frame .grown) e t)) (core .sees e t)
       ];
       copied = λ e s. elim (joined-cases rows n q above e s) [
-        | inl i ↦ subst (λ x. Same Cr (begun-copies x) (held (own x) table)) (sym i) (subst (λ l. Same Cr (begun-copies n) l) (sym (none-own table (core .frame .holders))) (subst (λ b. Same Cr (cond b [] (copies n)) []) (sym (eq-eqb n n refl)) same-nil))
-        | inr t ↦ subst (λ b. Same Cr (cond b [] (copies e)) (held (own e) table)) (sym (ne-eqb e n (older e t))) (core .copied e t)
+        | inl i ↦ subst (λ x. Same Cross (begun-copies x) (held (own x) table)) (sym i) (subst (λ l. Same Cross (begun-copies n) l) (sym (none-own table (core .frame .holders))) (subst (λ b. Same Cross (cond b [] (copies n)) []) (sym (eq-eqb n n refl)) same-nil))
+        | inr t ↦ subst (λ b. Same Cross (cond b [] (copies e)) (held (own e) table)) (sym (ne-eqb e n (older e t))) (core .copied e t)
       ];
       fair-right = core .fair-right;
       fair-value = core .fair-value;

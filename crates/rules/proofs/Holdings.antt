@@ -58,35 +58,35 @@ module _ {X : Type 0} where
   held-renamed f t [] = refl
   held-renamed f t (g ∷ gs) = cond-cons (t (f (g .holder))) (t (f (g .holder))) (g .item) (held t (renamed f gs)) (held (λ h. t (f h)) gs) refl (held-renamed f t gs)
 
-module _ {X : Type 0} {Cr : X → X → Type 0} where
-  split-step : {t a b : Bool} → Parts t a b → (x : X) (ts us ws : List X) → (b ≡ true → All (Cr x) us) → Same Cr ts (us ++ ws) → Same Cr (cond t (x ∷ ts) ts) (cond a (x ∷ us) us ++ cond b (x ∷ ws) ws)
+module _ {X : Type 0} {Cross : X → X → Type 0} where
+  split-step : {t a b : Bool} → Parts t a b → (x : X) (ts us ws : List X) → (b ≡ true → All (Cross x) us) → Same Cross ts (us ++ ws) → Same Cross (cond t (x ∷ ts) ts) (cond a (x ∷ us) us ++ cond b (x ∷ ws) ws)
   split-step first x ts us ws c s = same-cons x s
   split-step second x ts us ws c s = same-trans (same-cons x s) (same-past x us ws (c refl))
   split-step neither x ts us ws c s = s
 
   -- where each of the second that stands before one of the first crosses it, the first may all go first
-  pub split : (t a b : ℕ → Bool) → ((h : ℕ) → Parts (t h) (a h) (b h)) → (gs : List (Held X)) → Pairs (λ g m. b (g .holder) ≡ true → a (m .holder) ≡ true → Cr (g .item) (m .item)) gs → Same Cr (held t gs) (held a gs ++ held b gs)
+  pub split : (t a b : ℕ → Bool) → ((h : ℕ) → Parts (t h) (a h) (b h)) → (gs : List (Held X)) → Pairs (λ g m. b (g .holder) ≡ true → a (m .holder) ≡ true → Cross (g .item) (m .item)) gs → Same Cross (held t gs) (held a gs ++ held b gs)
   split t a b parts [] p = same-nil
   split t a b parts (g ∷ gs) p =
       split-step (parts (g .holder)) (g .item) (held t gs) (held a gs) (held b gs)
-      (λ e. held-all (Cr (g .item)) a gs (all-both (λ m. b (g .holder) ≡ true → a (m .holder) ≡ true → Cr (g .item) (m .item)) (λ m. b (g .holder) ≡ true → a (m .holder) ≡ true → Cr (g .item) (m .item)) (λ m. a (m .holder) ≡ true → Cr (g .item) (m .item)) (λ m u w. u e) gs (p .0) (p .0)))
+      (λ e. held-all (Cross (g .item)) a gs (all-both (λ m. b (g .holder) ≡ true → a (m .holder) ≡ true → Cross (g .item) (m .item)) (λ m. b (g .holder) ≡ true → a (m .holder) ≡ true → Cross (g .item) (m .item)) (λ m. a (m .holder) ≡ true → Cross (g .item) (m .item)) (λ m u w. u e) gs (p .0) (p .0)))
       (split t a b parts gs (p .1))
 
-module _ {X : Type 0} (Cr : X → X → Type 0) where
-  cross-step : (a b : Bool) (x : X) (us ws : List X) → (a ≡ true → b ≡ true → ⊥) → (a ≡ true → All (Cr x) ws) → (b ≡ true → All (λ y. Cr y x) us) → All (λ y. All (Cr y) ws) us → All (λ y. All (Cr y) (cond b (x ∷ ws) ws)) (cond a (x ∷ us) us)
+module _ {X : Type 0} (Cross : X → X → Type 0) where
+  cross-step : (a b : Bool) (x : X) (us ws : List X) → (a ≡ true → b ≡ true → ⊥) → (a ≡ true → All (Cross x) ws) → (b ≡ true → All (λ y. Cross y x) us) → All (λ y. All (Cross y) ws) us → All (λ y. All (Cross y) (cond b (x ∷ ws) ws)) (cond a (x ∷ us) us)
   cross-step true true x us ws d f k r = absurd (d refl refl)
   cross-step true false x us ws d f k r = (f refl, r)
-  cross-step false true x us ws d f k r = all-both (λ y. Cr y x) (λ y. All (Cr y) ws) (λ y. Cr y x × All (Cr y) ws) (λ y u w. (u, w)) us (k refl) r
+  cross-step false true x us ws d f k r = all-both (λ y. Cross y x) (λ y. All (Cross y) ws) (λ y. Cross y x × All (Cross y) ws) (λ y u w. (u, w)) us (k refl) r
   cross-step false false x us ws d f k r = r
 
   -- where two lots cross, whichever stands first
   abbrev pub Crosses-both : (a b : ℕ → Bool) → Held X → Held X → Type 0
-  Crosses-both a b g m = (a (g .holder) ≡ true → b (m .holder) ≡ true → Cr (g .item) (m .item)) × (b (g .holder) ≡ true → a (m .holder) ≡ true → Cr (m .item) (g .item))
+  Crosses-both a b g m = (a (g .holder) ≡ true → b (m .holder) ≡ true → Cross (g .item) (m .item)) × (b (g .holder) ≡ true → a (m .holder) ≡ true → Cross (m .item) (g .item))
 
-  pub cross-held : (a b : ℕ → Bool) → ((h : ℕ) → a h ≡ true → b h ≡ true → ⊥) → (gs : List (Held X)) → Pairs (Crosses-both a b) gs → All (λ x. All (Cr x) (held b gs)) (held a gs)
+  pub cross-held : (a b : ℕ → Bool) → ((h : ℕ) → a h ≡ true → b h ≡ true → ⊥) → (gs : List (Held X)) → Pairs (Crosses-both a b) gs → All (λ x. All (Cross x) (held b gs)) (held a gs)
   cross-held a b d [] p = tt
   cross-held a b d (g ∷ gs) p =
       cross-step (a (g .holder)) (b (g .holder)) (g .item) (held a gs) (held b gs) (d (g .holder))
-      (λ e. held-all (Cr (g .item)) b gs (all-both (Crosses-both a b g) (Crosses-both a b g) (λ m. b (m .holder) ≡ true → Cr (g .item) (m .item)) (λ m u w. u .0 e) gs (p .0) (p .0)))
-      (λ e. held-all (λ y. Cr y (g .item)) a gs (all-both (Crosses-both a b g) (Crosses-both a b g) (λ m. a (m .holder) ≡ true → Cr (m .item) (g .item)) (λ m u w. u .1 e) gs (p .0) (p .0)))
+      (λ e. held-all (Cross (g .item)) b gs (all-both (Crosses-both a b g) (Crosses-both a b g) (λ m. b (m .holder) ≡ true → Cross (g .item) (m .item)) (λ m u w. u .0 e) gs (p .0) (p .0)))
+      (λ e. held-all (λ y. Cross y (g .item)) a gs (all-both (Crosses-both a b g) (Crosses-both a b g) (λ m. a (m .holder) ≡ true → Cross (m .item) (g .item)) (λ m u w. u .1 e) gs (p .0) (p .0)))
       (cross-held a b d gs (p .1))

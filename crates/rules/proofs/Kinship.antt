@@ -7,34 +7,11 @@ use Prim.Native.Nat.{ℕ, zero, suc, _<_, _≤_}
 use native.Mathlib.Omega.{arith}
 use lib.Dec.{eqb}
 use Rattle.std.specs.Orderings.{Decides}
-use Rattle.std.specs.shelf.Lists.{All, kept-by}
+use Rattle.std.specs.shelf.Lists.{kept-by}
 use Rattle.std.proofs.shelf.Tests.{eqb-true, eqb-false, eq-eqb, ne-eqb, or-cases, or-left, or-right, cases-bool, cases-eq, and-parts, not-true}
 use Rattle.rules.specs.declared.rows.Row.{Row}
 use Rattle.rules.specs.Entries.{stands, childless, parent-of, Elder, its-parent, of-its-parent, up-from, elders, is-among, is-own-or-elder}
-
--- ---- lists of numbers
-
-pub among-self : (x : ℕ) (ys : List ℕ) → is-among (x ∷ ys) x ≡ true
-among-self x ys = or-left (eqb x x) (is-among ys x) (eq-eqb x x refl)
-
-pub among-more : (x y : ℕ) (ys : List ℕ) → is-among ys x ≡ true → is-among (y ∷ ys) x ≡ true
-among-more x y ys h = or-right (eqb x y) (is-among ys x) h
-
-pub among-cases : (x y : ℕ) (ys : List ℕ) → is-among (y ∷ ys) x ≡ true → (x ≡ y) ⊎ (is-among ys x ≡ true)
-among-cases x y ys h = elim (or-cases (eqb x y) (is-among ys x) h) [ inl e ↦ inl (eqb-true x y e) | inr e ↦ inr e ]
-
-pub all-from-among : (Q : ℕ → Type 0) (xs : List ℕ) → ((y : ℕ) → is-among xs y ≡ true → Q y) → All Q xs
-all-from-among Q [] f = tt
-all-from-among Q (x ∷ xs) f = (f x (among-self x xs), all-from-among Q xs (λ y h. f y (among-more y x xs h)))
-
-pub among-all : (Q : ℕ → Type 0) (xs : List ℕ) → All Q xs → (y : ℕ) → is-among xs y ≡ true → Q y
-among-all Q [] a y h = absurd (false≢true h)
-among-all Q (x ∷ xs) a y h = elim (among-cases y x xs h) [ inl s ↦ subst Q (sym s) (a .0) | inr k ↦ among-all Q xs (a .1) y k ]
-
--- each number is above all that follow it
-abbrev pub Falls : List ℕ → Type 0
-Falls [] = Unit {0}
-Falls (x ∷ xs) = All (λ y. y < x) xs × Falls xs
+use Rattle.rules.proofs.Numbers.{among-self, among-more, among-cases, all-from-among, Falls}
 
 -- ---- look-ups in rows
 
@@ -291,28 +268,31 @@ module _ (k : ℕ → Bool) where
 -- ---- a new entry stands under q
 
 module _ (rows : List Row) (n q : ℕ) (above : (e : ℕ) → stands rows e ≡ true → e < n) where
+  abbrev new : Row
+  new = record { entry = n; parent = q }
+
   abbrev pub joined : List Row
-  joined = rows ++ (record { entry = n; parent = q } ∷ [])
+  joined = rows ++ (new ∷ [])
 
-  push-old : (rs : List Row) (e : ℕ) → stands rs e ≡ true → stands (rs ++ (record { entry = n; parent = q } ∷ [])) e ≡ true
+  push-old : (rs : List Row) (e : ℕ) → stands rs e ≡ true → stands (rs ++ (new ∷ [])) e ≡ true
   push-old [] e s = absurd (false≢true s)
-  push-old (r ∷ rs) e s = elim (stands-cases r rs e s) [ inl i ↦ stands-own r (rs ++ (record { entry = n; parent = q } ∷ [])) e i | inr t ↦ stands-more r (rs ++ (record { entry = n; parent = q } ∷ [])) e (push-old rs e t) ]
+  push-old (r ∷ rs) e s = elim (stands-cases r rs e s) [ inl i ↦ stands-own r (rs ++ (new ∷ [])) e i | inr t ↦ stands-more r (rs ++ (new ∷ [])) e (push-old rs e t) ]
 
-  push-new : (rs : List Row) → stands (rs ++ (record { entry = n; parent = q } ∷ [])) n ≡ true
-  push-new [] = stands-own (record { entry = n; parent = q }) [] n refl
-  push-new (r ∷ rs) = stands-more r (rs ++ (record { entry = n; parent = q } ∷ [])) n (push-new rs)
+  push-new : (rs : List Row) → stands (rs ++ (new ∷ [])) n ≡ true
+  push-new [] = stands-own new [] n refl
+  push-new (r ∷ rs) = stands-more r (rs ++ (new ∷ [])) n (push-new rs)
 
-  push-cases : (rs : List Row) (e : ℕ) → stands (rs ++ (record { entry = n; parent = q } ∷ [])) e ≡ true → (e ≡ n) ⊎ (stands rs e ≡ true)
-  push-cases [] e s = elim (stands-cases (record { entry = n; parent = q }) [] e s) [ inl i ↦ inl (sym i) | inr t ↦ absurd (false≢true t) ]
-  push-cases (r ∷ rs) e s = elim (stands-cases r (rs ++ (record { entry = n; parent = q } ∷ [])) e s) [
+  push-cases : (rs : List Row) (e : ℕ) → stands (rs ++ (new ∷ [])) e ≡ true → (e ≡ n) ⊎ (stands rs e ≡ true)
+  push-cases [] e s = elim (stands-cases new [] e s) [ inl i ↦ inl (sym i) | inr t ↦ absurd (false≢true t) ]
+  push-cases (r ∷ rs) e s = elim (stands-cases r (rs ++ (new ∷ [])) e s) [
     | inl i ↦ inr (stands-own r rs e i)
     | inr t ↦ elim (push-cases rs e t) [ inl j ↦ inl j | inr u ↦ inr (stands-more r rs e u) ]
   ]
 
-  push-parent-old : (rs : List Row) (e : ℕ) → stands rs e ≡ true → parent-of (rs ++ (record { entry = n; parent = q } ∷ [])) e ≡ parent-of rs e
+  push-parent-old : (rs : List Row) (e : ℕ) → stands rs e ≡ true → parent-of (rs ++ (new ∷ [])) e ≡ parent-of rs e
   push-parent-old [] e s = absurd (false≢true s)
   push-parent-old (r ∷ rs) e s =
-      let more = rs ++ (record { entry = n; parent = q } ∷ []) in
+      let more = rs ++ (new ∷ []) in
       elim (cases-eq (r .entry) e) [
         | inl i ↦ parent-own r more e i ∙ sym (parent-own r rs e i)
         | inr d ↦ elim (stands-cases r rs e s) [
@@ -321,9 +301,9 @@ module _ (rows : List Row) (n q : ℕ) (above : (e : ℕ) → stands rows e ≡ 
         ]
       ]
 
-  push-parent-new : (rs : List Row) → (stands rs n ≡ true → ⊥) → parent-of (rs ++ (record { entry = n; parent = q } ∷ [])) n ≡ q
-  push-parent-new [] d = parent-own (record { entry = n; parent = q }) [] n refl
-  push-parent-new (r ∷ rs) d = parent-other r (rs ++ (record { entry = n; parent = q } ∷ [])) n (λ i. d (stands-own r rs n i)) ∙ push-parent-new rs (λ s. d (stands-more r rs n s))
+  push-parent-new : (rs : List Row) → (stands rs n ≡ true → ⊥) → parent-of (rs ++ (new ∷ [])) n ≡ q
+  push-parent-new [] d = parent-own new [] n refl
+  push-parent-new (r ∷ rs) d = parent-other r (rs ++ (new ∷ [])) n (λ i. d (stands-own r rs n i)) ∙ push-parent-new rs (λ s. d (stands-more r rs n s))
 
   pub joined-old : (e : ℕ) → stands rows e ≡ true → stands joined e ≡ true
   joined-old = push-old rows

@@ -20,10 +20,10 @@ use Rattle.rules.specs.Cells.{value-at}
 use Rattle.rules.specs.States.{State, set-up, size-within, all-lawful, sound-for}
 use Rattle.rules.specs.Calls.{Answer, seen, ask, first-no, further-questions, turned-away, taken, unless-refused, step}
 use Rattle.rules.specs.Books.{Copy, then-block, lines-of, Book, new-book, rows-of, begun-number, posting-answer, is-done, if-any, with-begun, with-line, with-fair-block, with-block, with-abandoned, write}
-use Rattle.rules.specs.FairCopy.{Event, book-of, Leads, post-line, Get-their-answers, values-after, lines-down, lines-so-far, Block, block-if, added-by, blocks-added, Fair-copy-holds, Fair-copy-law}
+use Rattle.rules.specs.FairCopy.{Event, book-of, Leads, post-line, Get-their-answers, values-after, last-named-first, lines-so-far, Block, block-if, added-by, blocks-added, Fair-copy-holds, Fair-copy-law}
 use Rattle.rules.proofs.Exchanges.{folded-append, right-append}
 use Rattle.rules.proofs.Kinship.{Grown, elders-are}
-use Rattle.rules.proofs.Descending.{downward, so-far-right, so-far-end}
+use Rattle.rules.proofs.Descending.{so-far-right, so-far-end}
 use Rattle.rules.proofs.Stores.{laws}
 use Rattle.rules.proofs.Upheld.{Upheld, lines-at, unwritten}
 use Rattle.rules.proofs.Steps.{seen-at, upheld-by}
@@ -133,14 +133,9 @@ module _ {V P O : Type 0} (R : Rules V P O) (law : CrossingLaw R) (first : List 
 
 -- ---- the law
 
--- lines down a book's pages are those of its copies
-down-is : {P O : Type 0} (b : Book P O) (es : List ℕ) → downward (lines-at b) es ≡ lines-down b es
-down-is b [] = refl
-down-is b (e ∷ es) = ap (λ l. l ++ lines-at b e) (down-is b es)
-
 module _ {V P O : Type 0} (R : Rules V P O) (law : CrossingLaw R) (first : List V) (s : State V P) (b : Book P O) (up : Upheld R first s b) (e : ℕ) (st : stands (s .rows) e ≡ true) where
-  so-far : downward (lines-at b) (e ∷ elders (s .rows) e) ≡ lines-so-far b e
-  so-far = ap (λ rs. downward (lines-at b) (e ∷ elders rs e)) (sym (up .rows-are)) ∙ down-is b (e ∷ elders (rows-of (b .pages)) e)
+  so-far : last-named-first (lines-at b) (e ∷ elders (s .rows) e) ≡ lines-so-far b e
+  so-far = ap (λ rs. last-named-first (lines-at b) (e ∷ elders rs e)) (sym (up .rows-are))
 
   standing-answers : Get-their-answers R first (lines-of (b .fair) ++ lines-so-far b e)
   standing-answers = right-append (laws R law) first (lines-of (b .fair)) (lines-so-far b e) (up .core .fair-right)

@@ -3,6 +3,7 @@ mod Bools
 mod Options
 mod Pairs
 mod Holdings
+mod Numbers
 mod Kinship
 mod Standing
 mod Beginning

@@ -22,7 +22,7 @@ use Rattle.rules.specs.declared.refusals.Refusal.the-variants.{NotStanding, Ha
 use Rattle.rules.specs.Entries.{stands, childless, parent-of, elders, is-among, is-own-or-elder, without, outside}
 use Rattle.rules.specs.Cells.{value-at, of-value}
 use Rattle.rules.specs.States.{State}
-use Rattle.rules.specs.Calls.{Outcome, seen, commit, held-by, not-held-by, pass-on, earliest-holder, some-line, stops-posting, stops-publishing, questions, further-questions, turned-away, committed-state, passed-state, kept-state, taken, step}
+use Rattle.rules.specs.Calls.{Outcome, holder-after, seen, commit, held-by, not-held-by, pass-on, earliest-holder, some-line, stops-posting, stops-publishing, questions, further-questions, turned-away, committed-state, passed-state, kept-state, taken, step}
 use Rattle.rules.specs.Books.{Copied, Copy, then-line, then-block, lines-of, Book, rows-of, copy-of, with-begun, with-line, with-fair-block, with-block, with-abandoned, write}
 use Rattle.rules.specs.FairCopy.{Event, post-line, Gets-its-answer}
 use Rattle.rules.proofs.Holdings.{Held, held, renamed}
@@ -31,7 +31,7 @@ use Rattle.rules.proofs.Standing.{Core, left-of, other-copies}
 use Rattle.rules.proofs.Beginning.{began}
 use Rattle.rules.proofs.Posting.{posted}
 use Rattle.rules.proofs.Committing.{committed, others, not-other, Out}
-use Rattle.rules.proofs.Passing.{passed, heir}
+use Rattle.rules.proofs.Passing.{passed}
 use Rattle.rules.proofs.Abandoning.{abandoned}
 use Rattle.rules.proofs.Stores.{Lawful-values, Lawful-line, Crosses, laws, bare, commit-is, seen-is}
 use Rattle.rules.proofs.Bare.{kept-bare, passed-bare, all-bare, none-earliest, none-some}
@@ -195,7 +195,7 @@ module _ {V P O : Type 0} (R : Rules V P O) (law : CrossingLaw R) (first : List 
       let more : Copy P O → Copy P O = λ copy. then-block copy e (copy-of (b .pages) e) in
       let q-left : stands (rows-of left) q ≡ true = subst (λ rs. stands rs q ≡ true) (sym (rows-left (others e) (b .pages))) (stands-rest (others e) (rows-of (b .pages)) q (in-book q sq) (not-other e q ne)) in
       record {
-        table = renamed (heir e q) (up .table);
+        table = renamed (holder-after e q) (up .table);
         lines-are = ap (pass-on e q) (up .lines-are) ∙ passed-bare e q (up .table);
         rows-are = rows-written q more left ∙ rows-left (others e) (b .pages) ∙ ap (without e) (up .rows-are);
         numbered = λ f sf. up .numbered f (stood (others e) (s .rows) f sf .0);

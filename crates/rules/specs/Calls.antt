@@ -34,6 +34,10 @@ pub record Outcome (V P O : Type 0) : Type 0 where
 
 -- ---- lines
 
+-- who holds what h held, once the lines of e have passed to q
+abbrev pub holder-after : ℕ → ℕ → ℕ → ℕ
+holder-after e q h = cond (eqb h e) q h
+
 module _ {P : Type 0} where
   abbrev pub held-by : ℕ → List (Line P) → List (Line P)
   held-by e ls = kept-by (λ l. eqb (l .holder) e) ls
@@ -43,7 +47,7 @@ module _ {P : Type 0} where
 
   -- what e holds passes to q, each line in its place
   abbrev pub pass-on : ℕ → ℕ → List (Line P) → List (Line P)
-  pass-on e q ls = map (λ l. record { holder = cond (eqb (l .holder) e) q (l .holder); cell = l .cell; posting = l .posting }) ls
+  pass-on e q ls = map (λ l. record { holder = holder-after e q (l .holder); cell = l .cell; posting = l .posting }) ls
 
   abbrev pub some-line : (Line P → Bool) → List (Line P) → Bool
   some-line test [] = false

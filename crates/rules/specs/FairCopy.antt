@@ -55,15 +55,14 @@ module _ {V P O : Type 0} (R : Rules V P O) where
   abbrev pub values-after : List V → List (Copied P O) → List V
   values-after = folded post-line
 
-module _ {P O : Type 0} where
-  -- the lines of the copies of some entries, the last named first
-  abbrev pub lines-down : Book P O → List ℕ → List (Copied P O)
-  lines-down b [] = []
-  lines-down b (e ∷ es) = lines-down b es ++ lines-of (copy-of (b .pages) e)
+-- the items of some entries, those of the last named first
+abbrev pub last-named-first : {X : Type 0} → (ℕ → List X) → List ℕ → List X
+last-named-first items [] = []
+last-named-first items (e ∷ es) = last-named-first items es ++ items e
 
-  -- the lines so far of an entry: the copies of its elders, eldest first, and then its own
-  abbrev pub lines-so-far : Book P O → ℕ → List (Copied P O)
-  lines-so-far b e = lines-down b (e ∷ elders (rows-of (b .pages)) e)
+-- the lines so far of an entry: the copies of its elders, eldest first, and then its own
+abbrev pub lines-so-far : {P O : Type 0} → Book P O → ℕ → List (Copied P O)
+lines-so-far b e = last-named-first (λ x. lines-of (copy-of (b .pages) x)) (e ∷ elders (rows-of (b .pages)) e)
 
 -- ---- blocks of the fair copy
 
