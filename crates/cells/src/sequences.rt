@@ -7,9 +7,9 @@ use crate::kinds::Kind;
 /// Makes one posting on a value: stores the value that it leaves, and gives its answer. A posting
 /// that the kind does not allow gets no answer and stores nothing.
 pub fn post<K: Kind>(kind: &K, value: &mut K::Value, posting: K::Posting) -> Option<K::Answer>
-    ensures answer { result ≡ answer_to (rules kind.now) value.old posting }
-    ensures stored { value.new ≡ value_left (rules kind.now) value.old posting }
-    ensures lawful { (rules kind.now).value_lawful value.old ≡ true → (rules kind.now).value_lawful value.new ≡ true }
+    ensures answer { result ≡ answer_to (K.rules kind.now) value.old posting }
+    ensures stored { value.new ≡ value_left (K.rules kind.now) value.old posting }
+    ensures lawful { (K.rules kind.now).value_lawful value.old ≡ true → (K.rules kind.now).value_lawful value.new ≡ true }
 {
     if !kind.is_lawful_posting(posting) {
         return None;
@@ -22,8 +22,8 @@ pub fn post<K: Kind>(kind: &K, value: &mut K::Value, posting: K::Posting) -> Opt
 /// Does the posting cross each of the others? Where it does, its place among them makes no
 /// difference, to its own answer, to theirs, or to the value that all of them leave.
 pub fn crosses_each<K: Kind>(kind: &K, posting: K::Posting, others: &[K::Posting]) -> bool
-    ensures each { Decides result (CrossesEach (rules kind.now) posting others.now) }
-    ensures anywhere { result ≡ true → StandsAnywhere (rules kind.now) posting others.now }
+    ensures each { Decides result (CrossesEach (K.rules kind.now) posting others.now) }
+    ensures anywhere { result ≡ true → StandsAnywhere (K.rules kind.now) posting others.now }
 {
     for other in others {
         if !kind.crosses(posting, *other) {

@@ -18,7 +18,7 @@ use cells::kinds::Kind;
 ///   kept at the top or published is one block of the fair copy, in the order in which they were
 ///   kept and published, and nothing else is in it.
 pub fn fair_copy_law<K: Kind>(kind: &K)
-    ensures { FairCopyLaw (rules kind.now) }
+    ensures { FairCopyLaw (K.rules kind.now) }
 {}
 
 /// A register over cells of this kind turns a call away for the first question that it fails.
@@ -28,5 +28,5 @@ pub fn fair_copy_law<K: Kind>(kind: &K)
 /// call that is taken fails none at all. Refusals 6 and 7 name the holder of the earliest line for
 /// which the question fails, and all others name 0.
 pub fn refusal_law<K: Kind>(kind: &K)
-    ensures { RefusalLaw (rules kind.now) }
+    ensures { RefusalLaw (K.rules kind.now) }
 {}

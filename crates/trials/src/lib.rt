@@ -1,5 +1,7 @@
 // What the register does at the limits of its tables, shown on examples. What it does everywhere is
 // proved in the crate `register`.
+#![tactic(auto)]
+
 #[cfg(test)]
 mod nesting;
 #[cfg(test)]
