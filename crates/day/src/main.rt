@@ -1,5 +1,7 @@
 // A day's readings of a dam: each instrument's postings are made in turn on its cell and printed
 // with their answers, and at the end the closing values.
+#![tactic(auto)]
+
 ghost use Rattle.std.specs.Prelude.{◌≡◌, OnOk};
 ghost use Rattle.day.specs.Closing.{closing};
 
@@ -24,7 +26,7 @@ fn post_readings<K: Kind>(
 where
     K::Posting: fmt::Display,
     K::Answer: fmt::Display,
-    ensures { OnOk result (value.new ≡ closing (K.Kind.rules kind.now) value.old readings.now) }
+    ensures { OnOk result (value.new ≡ closing (K.rules kind.now) value.old readings.now) }
 {
     for reading in readings {
         let source = reading.source;

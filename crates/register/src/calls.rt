@@ -24,7 +24,7 @@ impl<'a, V: Copy, P: Copy> Register<'a, V, P> {
         kind: &K,
         parent: u16,
     ) -> Result<u16, Refusal>
-        ensures promised { Promised (rules kind.now) (view self.old) (Begin parent) (answered Entry result) (view self.new) }
+        ensures promised { Promised (K.rules kind.now) (view self.old) (Begin parent) (answered Entry result) (view self.new) }
         ensures tables { SameTables self.new self.old }
     {
         self.may_begin(parent)?;
@@ -41,7 +41,7 @@ impl<'a, V: Copy, P: Copy> Register<'a, V, P> {
         cell: usize,
         posting: P,
     ) -> Result<K::Answer, Refusal>
-        ensures promised { Promised (rules kind.now) (view self.old) (Post entry cell posting) (answered Posted result) (view self.new) }
+        ensures promised { Promised (K.rules kind.now) (view self.old) (Post entry cell posting) (answered Posted result) (view self.new) }
         ensures tables { SameTables self.new self.old }
     {
         let seen = self.may_post(kind, entry, cell, posting)?;
@@ -56,7 +56,7 @@ impl<'a, V: Copy, P: Copy> Register<'a, V, P> {
         kind: &K,
         entry: u16,
     ) -> Result<(), Refusal>
-        ensures promised { Promised (rules kind.now) (view self.old) (Keep entry) (answered (λ _. Done) result) (view self.new) }
+        ensures promised { Promised (K.rules kind.now) (view self.old) (Keep entry) (answered (λ _. Done) result) (view self.new) }
         ensures tables { SameTables self.new self.old }
     {
         self.stands_alone(entry)?;
@@ -75,7 +75,7 @@ impl<'a, V: Copy, P: Copy> Register<'a, V, P> {
         kind: &K,
         entry: u16,
     ) -> Result<(), Refusal>
-        ensures promised { Promised (rules kind.now) (view self.old) (Publish entry) (answered (λ _. Done) result) (view self.new) }
+        ensures promised { Promised (K.rules kind.now) (view self.old) (Publish entry) (answered (λ _. Done) result) (view self.new) }
         ensures tables { SameTables self.new self.old }
     {
         self.may_publish(kind, entry)?;
@@ -92,7 +92,7 @@ impl<'a, V: Copy, P: Copy> Register<'a, V, P> {
         kind: &K,
         entry: u16,
     ) -> Result<(), Refusal>
-        ensures promised { Promised (rules kind.now) (view self.old) (Abandon entry) (answered (λ _. Done) result) (view self.new) }
+        ensures promised { Promised (K.rules kind.now) (view self.old) (Abandon entry) (answered (λ _. Done) result) (view self.new) }
         ensures tables { SameTables self.new self.old }
     {
         self.stands(entry)?;
@@ -108,7 +108,7 @@ impl<'a, V: Copy, P: Copy> Register<'a, V, P> {
         kind: &K,
         cell: usize,
     ) -> Result<V, Refusal>
-        ensures { Promised (rules kind.now) (view self.now) (calls.Value cell) (answered replies.Value result) (view self.now) }
+        ensures { Promised (K.rules kind.now) (view self.now) (calls.Value cell) (answered replies.Value result) (view self.now) }
     {
         self.may_show(cell)
     }
@@ -119,7 +119,7 @@ impl<'a, V: Copy, P: Copy> Register<'a, V, P> {
         kind: &K,
         call: Call<P>,
     ) -> Result<Reply<V, K::Answer>, Refusal>
-        ensures promised { Promised (rules kind.now) (view self.old) call result (view self.new) }
+        ensures promised { Promised (K.rules kind.now) (view self.old) call result (view self.new) }
         ensures tables { SameTables self.new self.old }
     {
         match call {
@@ -148,6 +148,6 @@ impl<'a, V: Copy, P: Copy> Register<'a, V, P> {
     /// The fair-copy law of the register as it stands: whatever history led here from set-up, its fair
     /// copy holds.
     pub fn fair_copy_law<K: Kind<Value = V, Posting = P>>(&self, kind: &K)
-        ensures { FairCopyStands (rules kind.now) (view self.now) }
+        ensures { FairCopyStands (K.rules kind.now) (view self.now) }
     {}
 }

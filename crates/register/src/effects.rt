@@ -41,7 +41,7 @@ impl<'a, V: Copy, P: Copy> Register<'a, V, P> {
     /// The entry ends; its lines change the committed values in posting order, and end.
     pub(crate) fn commit<K: Kind<Value = V, Posting = P>>(&mut self, kind: &K, entry: u16)
         requires { childless (view self.old).rows entry ≡ true }
-        ensures state { view self.new ≡ committed_state (rules kind.now) (view self.old) entry }
+        ensures state { view self.new ≡ committed_state (K.rules kind.now) (view self.old) entry }
         ensures tables { SameTables self.new self.old }
     {
         self.values.commit(kind, &self.lines, entry);

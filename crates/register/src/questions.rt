@@ -69,7 +69,7 @@ impl<'a, V: Copy, P: Copy> Register<'a, V, P> {
         cell: usize,
         posting: P,
     ) -> Result<V, Refusal>
-        ensures { result ≡ seen_unless (seen (rules kind.now) (view self.now) entry cell) (first_no (questions (rules kind.now) (view self.now) (Post entry cell posting))) }
+        ensures { result ≡ seen_unless (seen (K.rules kind.now) (view self.now) entry cell) (first_no (questions (K.rules kind.now) (view self.now) (Post entry cell posting))) }
     {
         self.stands_alone(entry)?;
         let Some(committed) = self.values.get(cell) else {
@@ -106,7 +106,7 @@ impl<'a, V: Copy, P: Copy> Register<'a, V, P> {
         kind: &K,
         entry: u16,
     ) -> Result<(), Refusal>
-        ensures { result ≡ passed (questions (rules kind.now) (view self.now) (Publish entry)) }
+        ensures { result ≡ passed (questions (K.rules kind.now) (view self.now) (Publish entry)) }
     {
         self.stands_alone(entry)?;
         match searches::elder_in_the_way(kind, self.rows.as_slice(), self.lines.as_slice(), entry) {

@@ -27,8 +27,8 @@ impl<'a, V: Copy, P: Copy> Register<'a, V, P> {
         rows: &'a mut [Row],
         lines: &'a mut [Line<P>],
     ) -> Self
-        ensures state { view result ≡ set_up (rules kind.now) values.old (length rows.old) (length lines.old) }
-        ensures law { LedTo (rules kind.now) values.old (length rows.old) (length lines.old) [] (view result) }
+        ensures state { view result ≡ set_up (K.rules kind.now) values.old (length rows.old) (length lines.old) }
+        ensures law { LedTo (K.rules kind.now) values.old (length rows.old) (length lines.old) [] (view result) }
         ensures values { result.values.cells.ghost_name ≡ values.entry.ghost_name }
         ensures rows { result.rows.places.ghost_name ≡ rows.entry.ghost_name }
         ensures lines { result.lines.places.ghost_name ≡ lines.entry.ghost_name }

@@ -1,5 +1,7 @@
 // A round of readings at a dam: two readers at once, in nested entries, over a register of levels and a
 // register of totals. Each call is printed with its answer, and at the end the committed values.
+#![tactic(auto)]
+
 mod rounds;
 mod steps;
 mod texts;

@@ -21,7 +21,7 @@ where
     K::Value: fmt::Display,
     K::Posting: fmt::Display,
     K::Answer: fmt::Display,
-    ensures { OnOk result (GoneThrough (K.Kind.rules kind.now) (view register.old) (calls_of steps.now) (view register.new)) }
+    ensures { OnOk result (GoneThrough (K.rules kind.now) (view register.old) (calls_of steps.now) (view register.new)) }
 {
     for step in steps {
         let answer = AnswerLine(register.perform(kind, step.call));

@@ -1,9 +1,9 @@
 -- What the place of an entry's row says of the look-ups in rows.
-use Rattle.std.proofs.Common.{◌≡◌, ℕ, zero, suc, ◌<◌, Bool, true, false, List, [], ◌∷◌, length, get_or, is_some, Some, None, Option, sym, refl, ◌∙◌, arith, MatchOption}
+use Rattle.std.proofs.Common.{◌≡◌, ℕ, zero, suc, ◌<◌, true, false, List, [], ◌∷◌, length, get_or, is_some, Some, None, Option, sym, refl, ◌∙◌, arith, MatchOption}
 use Rattle.std.proofs.lemmas.Bool.{or_from, ne_eqb}
 use Rattle.rules.specs.declared.rows.Row.{Row}
 use Rattle.rules.specs.Entries.{stands, parent_of}
-use Rattle.rules.proofs.Kinship.{stands_own, stands_more, parent_own, parent_other, parent_none}
+use Rattle.rules.proofs.Kinship.{stands_own, stands_more, parent_own, parent_other}
 use Rattle.tables.specs.Places.{no_row, NoneBefore, HasItsRow, HasNoRow}
 
 -- past the first row

@@ -1,11 +1,11 @@
 -- Rows in order: what it says of look-ups and elders, and that begins and ends keep it.
-use Rattle.std.proofs.Common.{◌≡◌, ℕ, zero, suc, ◌+◌, ◌<◌, ◌≤◌, Bool, true, false, cond, not, ◌&&◌, ◌||◌, eqb, ltb, leb, ◌⊎◌, List, [], ◌∷◌, ◌++◌, length, get_or, take, Decides, filter, sym, refl, ap, ◌∙◌, subst, inl, inr, arith}
+use Rattle.std.proofs.Common.{◌≡◌, ℕ, zero, suc, ◌+◌, ◌<◌, ◌≤◌, Bool, true, false, not, ◌&&◌, ◌||◌, eqb, ltb, leb, ◌⊎◌, List, [], ◌∷◌, ◌++◌, length, get_or, take, Decides, filter, sym, refl, ap, ◌∙◌, subst, inl, inr, arith}
 use mathlib.Core.Bool.{false≢true}
 use Rattle.std.specs.List.{AllByRecursion as All}
 use Rattle.std.proofs.ByRecursion.{All-weaker, All-get_or, All-push}
 use Rattle.std.proofs.lemmas.Bool.{and_parts, and_from, or_cases, or_left, or_right, ltb-true, lt-ltb, leb-true, le-leb, eqb-true, eq-eqb, ne_eqb, cases_eq, cases_Bool, cond_both}
 use Rattle.rules.specs.declared.rows.Row.{Row}
-use Rattle.rules.specs.Entries.{stands, childless, parent_of, Elder, its_parent, elders, is_among, is_own_or_elder, without, outside}
+use Rattle.rules.specs.Entries.{stands, childless, parent_of, Elder, its_parent, elders, is_among, without, outside}
 use Rattle.rules.proofs.Bools.{false_by}
 use Rattle.rules.proofs.Kinship.{Grown, Closed, rest, stands_own, stands_more, stands_cases, stands_rest, stood, parent_own, parent_other, parent_none, elders_top, elders_inner, elders_are, among_elder, elder_below, kin_elder, others, closed_others, is_outside, closed_outside}
 use Rattle.tables.specs.Order.{rising_from, placed_in, are_in_order, numbered_to}

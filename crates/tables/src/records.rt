@@ -92,7 +92,7 @@ impl<'a, T: Copy + Owned> Table<'a, T> {
     /// Frees the places of one entry's records; the others close up and stay in their order.
     pub fn end(&mut self, entry: u16)
         requires { within self.old }
-        ensures standing { standing self.new ≡ filter (λ t. not (whose t == entry)) (standing self.old) }
+        ensures standing { standing self.new ≡ filter (λ t. not (T.whose t == entry)) (standing self.old) }
         ensures size { room self.new ≡ room self.old }
         ensures within { within self.new }
         ensures home { self.new.places.ghost_name ≡ self.old.places.ghost_name }

@@ -19,7 +19,7 @@ pub fn meet<K: Kind>(
     committed: K::Value,
 ) -> Result<K::Value, u16>
     requires { are_in_order rows.now ≡ true }
-    ensures { result ≡ met (changed_by_own (rules kind.now) rows.now wanted.now.holder wanted.now.cell committed lines.now) (earliest_holder (stops_posting_in (rules kind.now) rows.now wanted.now.holder wanted.now.cell wanted.now.posting) lines.now) }
+    ensures { result ≡ met (changed_by_own (K.rules kind.now) rows.now wanted.now.holder wanted.now.cell committed lines.now) (earliest_holder (stops_posting_in (K.rules kind.now) rows.now wanted.now.holder wanted.now.cell wanted.now.posting) lines.now) }
 {
     let mut seen = committed;
     for i in 0..lines.len() {
@@ -44,7 +44,7 @@ pub fn elder_in_the_way<K: Kind>(
     entry: u16,
 ) -> Option<u16>
     requires { are_in_order rows.now ≡ true }
-    ensures { result ≡ earliest_holder (stops_publishing_in (rules kind.now) rows.now lines.now entry) lines.now }
+    ensures { result ≡ earliest_holder (stops_publishing_in (K.rules kind.now) rows.now lines.now entry) lines.now }
 {
     for i in 0..lines.len() {
         let line = lines[i];
@@ -64,7 +64,7 @@ fn holds_uncrossed<K: Kind>(
     entry: u16,
     other: &Line<K::Posting>,
 ) -> bool
-    ensures { result ≡ holds_uncrossed (rules kind.now) lines.now entry other.now }
+    ensures { result ≡ holds_uncrossed (K.rules kind.now) lines.now entry other.now }
 {
     for line in lines {
         if line.holder == entry

@@ -38,14 +38,14 @@ impl<'a, V: Copy> Values<'a, V> {
 
     /// Does the kind allow all of the values?
     pub fn are_lawful<K: Kind<Value = V>>(&self, kind: &K) -> bool
-        ensures { result ≡ all_lawful (rules kind.now) (committed self.now) }
+        ensures { result ≡ all_lawful (K.rules kind.now) (committed self.now) }
     {
         are_lawful(kind, self.cells)
     }
 
     /// Stores the value after the posting, where there is such a cell.
     pub fn store<K: Kind<Value = V>>(&mut self, kind: &K, cell: usize, posting: K::Posting)
-        ensures stored { committed self.new ≡ store (rules kind.now) (committed self.old) cell posting }
+        ensures stored { committed self.new ≡ store (K.rules kind.now) (committed self.old) cell posting }
         ensures home { self.new.cells.ghost_name ≡ self.old.cells.ghost_name }
     {
         if cell < self.cells.len() {
@@ -57,7 +57,7 @@ impl<'a, V: Copy> Values<'a, V> {
     /// Those of the lines that the entry holds change the values, in their order.
     pub fn commit<K: Kind<Value = V>>(&mut self, kind: &K, lines: &Lines<K::Posting>, entry: u16)
         requires { within lines.now }
-        ensures stored { committed self.new ≡ commit (rules kind.now) (committed self.old) (held_by entry (standing lines.now)) }
+        ensures stored { committed self.new ≡ commit (K.rules kind.now) (committed self.old) (held_by entry (standing lines.now)) }
         ensures home { self.new.cells.ghost_name ≡ self.old.cells.ghost_name }
     {
         for line in lines.as_slice() {
@@ -69,7 +69,7 @@ impl<'a, V: Copy> Values<'a, V> {
 }
 
 fn are_lawful<K: Kind>(kind: &K, values: &[K::Value]) -> bool
-    ensures { result ≡ all_lawful (rules kind.now) values.now }
+    ensures { result ≡ all_lawful (K.rules kind.now) values.now }
 {
     for value in values {
         if !kind.is_lawful_value(*value) {

@@ -1,4 +1,4 @@
-use Rattle.std.proofs.Common.{◌≡◌, Ok, refl, ap, ◌∙◌}
+use Rattle.std.proofs.Common.{refl}
 use Rattle.std.proofs.lemmas.Result.{err_from_is_err_and}
 use Rattle.rules.specs.declared.calls.Call.TheVariants.{Publish}
 use Rattle.rules.specs.declared.calls.Reply.TheVariants.{Done}
@@ -8,14 +8,14 @@ use Rattle.register.specs.Views.{view}
 use Rattle.register.proofs.Promising.{returns_refusal, took, refused, passed_all}
 use Rattle.register.proofs.Register.publish.Goals as goal
 
-pub returns-in-err-may-publish : goal.returns-in-err-may-publish
-returns-in-err-may-publish g c =
+pub returns-in_err-may_publish : goal.returns-in_err-may_publish
+returns-in_err-may_publish g c =
     let R = g.K.Kind.rules c.args.kind.now in
     let s = view c.args.self.now in
     let call = Publish c.args.entry in
-    let refusal = c.in-err-may-publish.field-0.0 in
+    let refusal = c.in_err-may_publish.field-0.0 in
     record {
-      promised = returns_refusal R (g.met.K.Kind.crossing c.args.kind.now) s (grown s.rows c.args.self.now.in_order) call (λ _. Done) c.from-residual.result refusal (err_from_is_err_and c.from-residual.result c.from-residual.ensures.1) (refused tt (first_no (questions R s call)) refusal c.in-err-may-publish.ensures);
+      promised = returns_refusal R (g.met.K.Kind.crossing c.args.kind.now) s (grown s.rows c.args.self.now.in_order) call (λ _. Done) c.from_residual.result refusal (err_from_is_err_and c.from_residual.result c.from_residual.ensures.1) (refused tt (first_no (questions R s call)) refusal c.in_err-may_publish.ensures);
       tables = record { values = refl; rows = refl; lines = refl };
     }
 
@@ -25,6 +25,6 @@ returns g c =
     let s = view c.args.self.now in
     let call = Publish c.args.entry in
     record {
-      promised = took R (g.met.K.Kind.crossing c.args.kind.now) s (grown s.rows c.args.self.now.in_order) call _ _ (passed_all tt _ (first_no (questions R s call)) c.in-ok-may-publish.ensures) refl c.commit.ensures.state;
+      promised = took R (g.met.K.Kind.crossing c.args.kind.now) s (grown s.rows c.args.self.now.in_order) call _ _ (passed_all tt _ (first_no (questions R s call)) c.in_ok-may_publish.ensures) refl c.commit.ensures.state;
       tables = c.commit.ensures.tables;
     }

@@ -10,4 +10,4 @@ use Rattle.register.proofs.Register.value.Goals as goal
 pub returns : goal.returns
 returns g c =
     let s = view c.args.self.now in
-    promised_to_show (g.K.Kind.rules c.args.kind.now) (g.met.K.Kind.crossing c.args.kind.now) s (grown s.rows c.args.self.now.in_order) (call.Value c.args.cell) (value_at s.values c.args.cell) reply.Value refl c.may-show.result c.may-show.ensures
+    promised_to_show (g.K.Kind.rules c.args.kind.now) (g.met.K.Kind.crossing c.args.kind.now) s (grown s.rows c.args.self.now.in_order) (call.Value c.args.cell) (value_at s.values c.args.cell) reply.Value refl c.may_show.result c.may_show.ensures

@@ -1,4 +1,4 @@
-use Rattle.std.proofs.Common.{◌≡◌, sym, ◌∙◌, arith}
+use Rattle.std.proofs.Common.{sym, ◌∙◌, arith}
 use Rattle.std.proofs.lemmas.Bool.{eq-eqb}
 use Rattle.tables.proofs.InOrder.{told, none_from_above, none_at_top, parent_below, parent_is, up_to_parent}
 use Rattle.tables.proofs.elders.+is_elder.Goals as goal
@@ -10,20 +10,20 @@ returns-then-entry-elder t c =
 
 pub returns-then-parent-eq0 : goal.returns-then-parent-eq0
 returns-then-parent-eq0 t c =
-    let listed = none_at_top c.args.rows.now c.requires c.args.entry c.args.elder (sym c.parent-of-parent.ensures ∙ c.if-parent-eq0.true) in
+    let listed = none_at_top c.args.rows.now c.requires c.args.entry c.args.elder (sym c.parent_of-parent.ensures ∙ c.if-parent-eq0.true) in
     record { listed = listed; related = told c.args.rows.now c.requires c.args.entry c.args.elder _ listed }
 
-pub is-elder-requires : goal.is-elder-requires
-is-elder-requires t c =
-    let below = parent_below c.args.rows.now c.requires c.args.entry (λ z. c.if-parent-eq0.false (c.parent-of-parent.ensures ∙ z)) in
-    (omega (arith, below, c.parent-of-parent.ensures, c.decreases), c.requires)
+pub is_elder-requires : goal.is_elder-requires
+is_elder-requires t c =
+    let below = parent_below c.args.rows.now c.requires c.args.entry (λ z. c.if-parent-eq0.false (c.parent_of-parent.ensures ∙ z)) in
+    (omega (arith, below, c.parent_of-parent.ensures, c.decreases), c.requires)
 
 pub returns-then-parent-elder : goal.returns-then-parent-elder
 returns-then-parent-elder t c =
-    let listed = eq-eqb _ _ c.if-parent-elder.true ∙ parent_is c.args.rows.now c.requires c.args.entry c.args.elder c.parent-of-parent.result c.parent-of-parent.ensures c.if-parent-eq0.false c.if-parent-elder.true in
+    let listed = eq-eqb _ _ c.if-parent-elder.true ∙ parent_is c.args.rows.now c.requires c.args.entry c.args.elder c.parent_of-parent.result c.parent_of-parent.ensures c.if-parent-eq0.false c.if-parent-elder.true in
     record { listed = listed; related = told c.args.rows.now c.requires c.args.entry c.args.elder _ listed }
 
 pub returns-else-parent-elder : goal.returns-else-parent-elder
 returns-else-parent-elder t c =
-    let listed = c.is-elder.ensures.listed ∙ up_to_parent c.args.rows.now c.requires c.args.entry c.args.elder c.parent-of-parent.result c.parent-of-parent.ensures c.if-parent-eq0.false c.if-parent-elder.false in
+    let listed = c.is_elder.ensures.listed ∙ up_to_parent c.args.rows.now c.requires c.args.entry c.args.elder c.parent_of-parent.result c.parent_of-parent.ensures c.if-parent-eq0.false c.if-parent-elder.false in
     record { listed = listed; related = told c.args.rows.now c.requires c.args.entry c.args.elder _ listed }

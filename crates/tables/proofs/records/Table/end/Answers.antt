@@ -7,7 +7,7 @@ use Rattle.tables.proofs.records.Table.end.Goals.{then-owner-entry, else-owner-e
 
 pub loop-i-preserved : goal.loop-i-preserved
 loop-i-preserved g c =
-    let p : g.row.T.Denot → Bool = λ t. not (eqb (g.T-as-Owned.whose t) c.args.entry) in
+    let p : g.row.T.Denot → Bool = λ t. not (eqb (g.T.Owned.whose t) c.args.entry) in
     let was = c.args.self.now in
     let t = c.loop-i.self in
     let i = c.loop-i.i in

@@ -1,4 +1,4 @@
-use Rattle.std.proofs.Common.{◌≡◌, ◌+◌, drop, sym, ap, ◌∙◌}
+use Rattle.std.proofs.Common.{◌+◌, drop, ap, ◌∙◌}
 use Rattle.rules.specs.Calls.{commit, held_by}
 use Rattle.tables.proofs.Searching.{stored_here, not_stored, all_stored}
 use Rattle.tables.proofs.values.Values.commit.Goals as goal
@@ -8,7 +8,7 @@ pub loop-line-preserved : goal.loop-line-preserved
 loop-line-preserved g c =
     let R = g.K.Kind.rules c.args.kind.now in
     let at = c.loop-line.invariant in
-    let ls = c.as-slice-line-items.result.now in
+    let ls = c.as_slice-line-items.result.now in
     let i = c.loop-line.line-index in
     let first = c.args.self.now.cells.now in
     let vs = c.loop-line.self.cells.now in
@@ -29,7 +29,7 @@ pub returns : goal.returns
 returns g c =
     let at = c.loop-line.invariant in
     record {
-      stored = all_stored (g.K.Kind.rules c.args.kind.now) c.args.entry c.args.self.now.cells.now c.as-slice-line-items.result.now c.loop-line.self.cells.now c.loop-line.line-index at.0 c.loop-line-test.false
-          ∙ ap (λ ls. commit (g.K.Kind.rules c.args.kind.now) c.args.self.now.cells.now (held_by c.args.entry ls)) c.as-slice-line-items.ensures;
+      stored = all_stored (g.K.Kind.rules c.args.kind.now) c.args.entry c.args.self.now.cells.now c.as_slice-line-items.result.now c.loop-line.self.cells.now c.loop-line.line-index at.0 c.loop-line-test.false
+          ∙ ap (λ ls. commit (g.K.Kind.rules c.args.kind.now) c.args.self.now.cells.now (held_by c.args.entry ls)) c.as_slice-line-items.ensures;
       home = at.1;
     }

@@ -1,4 +1,4 @@
-use Rattle.std.proofs.Common.{◌≡◌, get_or, set, refl, ap, ◌∙◌}
+use Rattle.std.proofs.Common.{get_or, set, refl, ap, ◌∙◌}
 use Rattle.std.proofs.lemmas.List.{get_or_default}
 use Rattle.tables.proofs.Cells.{change_set, change_past}
 use Rattle.tables.proofs.values.Values.store.Goals as goal

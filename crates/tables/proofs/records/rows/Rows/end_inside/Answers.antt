@@ -8,7 +8,7 @@ use Rattle.tables.specs.Tables.{standing}
 use Rattle.tables.proofs.InOrder.{own_ends, other_by_parent}
 use Rattle.tables.proofs.Sifting.{in_table, as_it_was, so_far, sifted_in, sifted_out}
 use Rattle.tables.proofs.records.rows.Rows.end_inside.Goals as goal
-use Rattle.tables.proofs.records.rows.Rows.end_inside.Goals.{then-row-entry+then-is-placed-before, else-row-entry, else-row-entry-via-then-row-entry+else-is-placed-before, else-row-entry-via-else-row-entry}
+use Rattle.tables.proofs.records.rows.Rows.end_inside.Goals.{then-row-entry+then-is_placed_before, else-row-entry, else-row-entry-via-then-row-entry+else-is_placed_before, else-row-entry-via-else-row-entry}
 
 pub loop-i-preserved : goal.loop-i-preserved
 loop-i-preserved c =
@@ -29,11 +29,11 @@ loop-i-preserved c =
     let by_parent : (x.entry ≡ e → ⊥) → p x ≡ (eqb x.parent 0 || stands (take k t.places.now) x.parent) =
     λ d. other_by_parent rows c.requires.order e i x inside stood d ∙ ap (λ b. eqb x.parent 0 || b) before in
     elim c.if-row-entry.branch [
-      | then-row-entry+then-is-placed-before w ↦ sifted_in p was t k i c.requires.within c.loop-i.invariant c.loop-i-test.true x read c.if-row-entry.self c.if-row-entry.next
-          (by_parent w.if-row-entry.true ∙ sym w.is-placed-before.ensures ∙ w.if-is-placed-before.true) w.self-is w.next-is
+      | then-row-entry+then-is_placed_before w ↦ sifted_in p was t k i c.requires.within c.loop-i.invariant c.loop-i-test.true x read c.if-row-entry.self c.if-row-entry.next
+          (by_parent w.if-row-entry.true ∙ sym w.is_placed_before.ensures ∙ w.if-is_placed_before.true) w.self-is w.next-is
       | else-row-entry w ↦ elim w.else-row-entry.branch [
-        | else-row-entry-via-then-row-entry+else-is-placed-before v ↦ sifted_out p was t k i c.requires.within c.loop-i.invariant c.loop-i-test.true x read c.if-row-entry.self c.if-row-entry.next
-            (by_parent v.if-row-entry.true ∙ sym v.is-placed-before.ensures ∙ v.if-is-placed-before.false) w.self-is w.next-is
+        | else-row-entry-via-then-row-entry+else-is_placed_before v ↦ sifted_out p was t k i c.requires.within c.loop-i.invariant c.loop-i-test.true x read c.if-row-entry.self c.if-row-entry.next
+            (by_parent v.if-row-entry.true ∙ sym v.is_placed_before.ensures ∙ v.if-is_placed_before.false) w.self-is w.next-is
         | else-row-entry-via-else-row-entry v ↦ sifted_out p was t k i c.requires.within c.loop-i.invariant c.loop-i-test.true x read c.if-row-entry.self c.if-row-entry.next
             (own_ends rows c.requires.order e i x inside stood v.if-row-entry.false) w.self-is w.next-is
       ]
