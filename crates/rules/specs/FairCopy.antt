@@ -1,6 +1,6 @@
 -- The fair-copy law: which answers and values the fair copy of a run of calls gives. Assumes nothing.
 use Rattle.std.specs.Prelude.{◌≡◌, ℕ, Bool, true, cond, ◌&&◌, List, [], ◌∷◌, ◌++◌, Some, Decides, fold, ◌==◌, ◌≢◌}
-use Rattle.std.specs.List.{AllByRecursion as All}
+use Rattle.std.specs.List.{AllByRecursion}
 use Rattle.cells.specs.Kinds.{Rules}
 use Rattle.rules.specs.declared.calls.Call.{Call}
 use Rattle.rules.specs.declared.calls.Call.TheVariants.{Begin, Post, Keep, Publish, Abandon, Value}
@@ -73,7 +73,7 @@ module _ {P O : Type 0} where
   -- no two of these blocks are of the same entry
   abbrev pub AllDiffer : List (Block P O) → Type 0
   AllDiffer [] = Unit {0}
-  AllDiffer (block ∷ blocks) = All (λ other. block.entry ≢ other.entry) blocks × AllDiffer blocks
+  AllDiffer (block ∷ blocks) = AllByRecursion (λ other. block.entry ≢ other.entry) blocks × AllDiffer blocks
 
   abbrev pub block_if : Bool → Book P O → ℕ → List (Block P O)
   block_if added b e = cond added (record { entry = e; copy = copy_of b.pages e } ∷ []) []
@@ -118,7 +118,7 @@ pub record FairCopyHolds {V P O : Type 0} (R : Rules V P O) (first : List V) (s 
   -- no entry has two blocks
   pub each_once : AllDiffer blocks
   -- .. and an entry that stands has none
-  pub all_ended : All (λ block. stands s.rows block.entry ≢ true) blocks
+  pub all_ended : AllByRecursion (λ block. stands s.rows block.entry ≢ true) blocks
 
 -- For all first values, lawful or not, all sizes of the tables, and every history that leads from set-up by steps.
 abbrev pub FairCopyLaw : {V P O : Type 0} → Rules V P O → Type 0

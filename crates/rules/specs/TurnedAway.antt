@@ -1,6 +1,6 @@
 -- What it says that a call is turned away: the first question that it fails, in the words of the questions. Assumes nothing.
 use Rattle.std.specs.Prelude.{◌≡◌, ℕ, ◌<◌, ◌≤◌, false, List, ◌∷◌, ◌++◌, length, Ok, Err, ◌≢◌}
-use Rattle.std.specs.List.{AllByRecursion as All}
+use Rattle.std.specs.List.{AllByRecursion}
 use Rattle.cells.specs.Kinds.{Rules}
 use Rattle.rules.specs.declared.lines.Line.{Line}
 use Rattle.rules.specs.declared.calls.Call.{Call}
@@ -25,7 +25,7 @@ pub record Earliest {P : Type 0} (HasIt : Line P → Type 0) (lines : List (Line
   pub line : Line P
   pub place : Among line lines
   pub has_it : HasIt line
-  pub none_before : All (λ l. HasIt l → ⊥) place.before
+  pub none_before : AllByRecursion (λ l. HasIt l → ⊥) place.before
   pub its_holder : line.holder ≡ h
 
 -- what holds of a call, by which call it is and what it names
