@@ -7,8 +7,8 @@ mod nesting;
 #[cfg(test)]
 mod numbers;
 #[cfg(test)]
+mod old_records;
+#[cfg(test)]
 mod room;
 #[cfg(test)]
 mod soundness;
-#[cfg(test)]
-mod tables;

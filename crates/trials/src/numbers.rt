@@ -1,5 +1,5 @@
 // Entries get the numbers 1 to 65,535, and then none.
-use crate::tables::{ANY_LEVEL_LINE, ANY_ROW};
+use crate::old_records::{ANY_LEVEL_LINE, ANY_ROW};
 use cells::levels::Level;
 use register::Register;
 use rules::refusals::Refusal;

@@ -1,5 +1,5 @@
 // Rows and lines run out, and those that have ended are used again.
-use crate::tables::{ANY_LEVEL_LINE, ANY_ROW};
+use crate::old_records::{ANY_LEVEL_LINE, ANY_ROW};
 use cells::answers::Answer;
 use cells::levels::{Level, LevelPosting};
 use register::Register;

@@ -1,5 +1,5 @@
 // A register that was set up over unsound tables turns every call away.
-use crate::tables::{ANY_LEVEL_LINE, ANY_ROW, ANY_TOTAL_LINE};
+use crate::old_records::{ANY_LEVEL_LINE, ANY_ROW, ANY_TOTAL_LINE};
 use cells::levels::{Level, LevelPosting};
 use cells::totals::Total;
 use register::Register;
