@@ -35,5 +35,6 @@ pub trait Kind {
     fn crosses(&self, posting: Self::Posting, other: Self::Posting) -> bool
         ensures { result ≡ (rules self.now).crosses posting other };
 
+    // Owed by every kind: a member below the last method is a law, which each implementation proves.
     ghost crossing: { (kind : Self) → CrossingLaw (rules kind) };
 }

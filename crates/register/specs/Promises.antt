@@ -21,7 +21,7 @@ module _ {V P O : Type 0} (R : Rules V P O) (first : List V) (row_room line_room
 
   -- The fair copy of the history holds at s: posted line by line on the first values it gives each line the answer that the
   -- register gave and ends in the committed values; for every standing entry the copies of its elders, eldest first, and then its
-  -- own, posted next, get the answers given; and what else `Fair-copy-holds` says.
+  -- own, posted next, get the answers given; and what else `FairCopyHolds` says.
   abbrev pub HasFairCopy : List (Event V P O) → State V P → Type 0
   HasFairCopy history s = FairCopyHolds R first s (book_of history) (blocks_added R (set_up R first row_room line_room) new_book history)
 

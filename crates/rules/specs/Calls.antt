@@ -158,7 +158,7 @@ module _ {V P : Type 0} where
   abbrev pub turned_away : {O : Type 0} → State V P → Refusal → Outcome V P O
   turned_away s refusal = record { answer = Err refusal; state = s }
 
-  -- question 4 has made sure that there is a value; the other case is here only because `value-at` answers an option
+  -- question 4 has made sure that there is a value; the other case is here only because `value_at` answers an option
   abbrev pub at_value : {O : Type 0} → State V P → Option V → (V → Outcome V P O) → Outcome V P O
   at_value s None outcome = turned_away s NoSuchCell
   at_value s (Some v) outcome = outcome v
