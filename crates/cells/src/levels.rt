@@ -2,7 +2,7 @@
 ghost use Rattle.cells.specs.Levels.{level_rules};
 ghost use Rattle.cells.specs.Shown.{level_posting_text};
 ghost use Rattle.std.specs.Prelude.{Some};
-ghost use Rattle.std.proofs.Common.{rules};
+ghost use Rattle.std.proofs.Common;
 
 use crate::answers::Answer;
 use crate::kinds::Kind;
@@ -38,7 +38,7 @@ impl Kind for Level {
 
     ghost rules = { λ _. level_rules };
 
-    ghost crossing = { Prim.search rules };
+    ghost crossing = { Prim.search Common.rules };
 
     fn is_lawful_value(&self, _value: i32) -> bool {
         true // every i32 is a level

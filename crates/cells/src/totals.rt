@@ -2,7 +2,7 @@
 ghost use Rattle.cells.specs.Shown.{total_posting_text};
 ghost use Rattle.cells.specs.Totals.{total_rules};
 ghost use Rattle.std.specs.Prelude.{Some};
-ghost use Rattle.std.proofs.Common.{rules};
+ghost use Rattle.std.proofs.Common;
 
 use crate::answers::Answer;
 use crate::kinds::Kind;
@@ -42,7 +42,7 @@ impl Kind for Total {
 
     ghost rules = { λ _. total_rules };
 
-    ghost crossing = { Prim.search rules };
+    ghost crossing = { Prim.search Common.rules };
 
     fn is_lawful_value(&self, value: i32) -> bool {
         0 <= value && value < TURNOVER

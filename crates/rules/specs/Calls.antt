@@ -1,5 +1,5 @@
 -- The rules of the calls: the questions to each in their order, and what it does and answers if none turns it away. Assumes nothing.
-use Rattle.std.specs.Prelude.{ℕ, ◌+◌, Bool, true, false, cond, not, ◌&&◌, ◌||◌, List, [], ◌∷◌, ◌++◌, map, length, Some, None, Ok, Err, fold, filter, Option, Result, ◌==◌, nat_eq, nat_lt}
+use Rattle.std.specs.Prelude.{ℕ, ◌+◌, Bool, true, false, cond, not, ◌&&◌, ◌||◌, List, [], ◌∷◌, ◌++◌, map, length, Some, None, Ok, Err, fold, filter, Option, Result, ◌==◌, nat_lt}
 use Rattle.cells.specs.Kinds.{Rules}
 use Rattle.cells.specs.Sequences.{after_all}
 use Rattle.rules.specs.declared.lines.Line.{Line}
@@ -31,7 +31,7 @@ holder_after e q h = cond (h == e) q h
 
 module _ {P : Type 0} where
   abbrev pub held_by : ℕ → List (Line P) → List (Line P)
-  held_by e ls = filter (λ l. nat_eq l.holder e) ls
+  held_by e ls = filter (λ l. l.holder == e) ls
 
   abbrev pub not_held_by : ℕ → List (Line P) → List (Line P)
   not_held_by e ls = filter (λ l. not (l.holder == e)) ls
