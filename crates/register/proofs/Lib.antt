@@ -1,1 +1,2 @@
 mod Promising
+mod Rows

@@ -1,5 +1,6 @@
 -- A call that gets the rules' answer and leaves the rules' state keeps all of its promise.
-use Rattle.std.proofs.Common.{◌≡◌, ℕ, List, [], ◌∷◌, Some, None, Ok, Err, Option, Result, sym, refl, ap, ◌∙◌, subst, arith}
+use Rattle.std.proofs.Common.{◌≡◌, ℕ, List, [], ◌∷◌, Some, None, Ok, Err, Option, Result, IsErrAnd, sym, refl, ap, ◌∙◌, subst}
+use Rattle.std.proofs.lemmas.Result.{err_from_is_err_and}
 use Rattle.cells.specs.Kinds.{Rules, CrossingLaw}
 use Rattle.rules.specs.declared.calls.Call.{Call}
 use Rattle.rules.specs.declared.calls.Reply.{Reply}
@@ -9,41 +10,31 @@ use Rattle.rules.specs.Calls.{Answer, Outcome, at_value, first_no, questions, ta
 use Rattle.rules.specs.Calls.{turned_away as rules_turn_away}
 use Rattle.rules.specs.FairCopy.{Event}
 use Rattle.rules.proofs.Histories.{leads_append}
-use Rattle.rules.proofs.Kinship.{Grown, elders_are}
+use Rattle.rules.proofs.Kinship.{elders_are}
 use Rattle.rules.proofs.Law.{fair_copy_law}
 use Rattle.rules.proofs.Refusing.{answers_rightly}
-use Rattle.register.specs.Views.{answered}
-use Rattle.register.specs.Questions.{unless, seen_unless}
+use Rattle.tables.proofs.InOrder.{grown}
+use Rattle.register.specs.declared.Register.{Register}
+use Rattle.register.specs.Views.{answered, view}
+use Rattle.register.specs.Questions.{unless, passed, seen_unless}
 use Rattle.register.specs.Promises.{Promised, LedTo, and_then, FairCopyStands}
-
--- ---- what a call's questions came to
-
-err_not_ok : {X : Type 0} {x : X} {refusal : Refusal} → ◌≡◌ {A = Result X Refusal} (Err refusal) (Ok x) → ⊥
-err_not_ok h = let z : ◌≡◌ {A = ℕ} 0 1 = cc in omega arith
-
-same_refusal : {X : Type 0} {a b : Refusal} → ◌≡◌ {A = Result X Refusal} (Err a) (Err b) → a ≡ b
-same_refusal h = cc
-
-same_value : {X : Type 0} {x y : X} → ◌≡◌ {A = Result X Refusal} (Ok x) (Ok y) → x ≡ y
-same_value h = cc
-
--- it was turned away ..
-pub refused : {X : Type 0} (x : X) (o : Option Refusal) (refusal : Refusal) → Err refusal ≡ unless x o → o ≡ Some refusal
-refused x None refusal h = absurd (err_not_ok h)
-refused x (Some other) refusal h = ap Some (sym (same_refusal h))
-
--- .. or not
-pub passed_all : {X : Type 0} (x y : X) (o : Option Refusal) → Ok y ≡ unless x o → o ≡ None
-passed_all x y None h = refl
-passed_all x y (Some other) h = absurd (err_not_ok (sym h))
 
 pub stands_by_law : {V P O : Type 0} (R : Rules V P O) → CrossingLaw R → (s : State V P) → FairCopyStands R s
 stands_by_law R law s first row_room line_room history led = fair_copy_law R law first row_room line_room history s led
 
-module _ {V P O : Type 0} (R : Rules V P O) (law : CrossingLaw R) (s : State V P) (grown : Grown s.rows) (call : Call P) where
-  pub promised : (answer : Answer V O) (t : State V P) → answer ≡ (step R s call).answer → t ≡ (step R s call).state → Promised R s call answer t
+-- what a call comes to, by what its questions came to
+module _ {V P O X : Type 0} (s : State V P) (outcome : X → Outcome V P O) where
+  abbrev by_questions : Result X Refusal → Outcome V P O
+  by_questions (Ok x) = outcome x
+  by_questions (Err refusal) = rules_turn_away s refusal
+
+module _ {V P O : Type 0} (R : Rules V P O) (law : CrossingLaw R) (was : Register V P) (call : Call P) where
+  abbrev s : State V P
+  s = view was
+
+  promised : (answer : Answer V O) (t : State V P) → answer ≡ (step R s call).answer → t ≡ (step R s call).state → Promised R s call answer t
   promised answer t is_answer is_state =
-      let right = answers_rightly R s (elders_are s.rows grown) in
+      let right = answers_rightly R s (elders_are s.rows (grown s.rows was.in_order)) in
       let leads_on : (first : List V) (row_room line_room : ℕ) (history : List (Event V P O)) → LedTo R first row_room line_room history s → LedTo R first row_room line_room (and_then history call answer) t =
       λ first row_room line_room history led. leads_append R (set_up R first row_room line_room) s t history (record { call = call; answer = answer } ∷ []) led (sym is_answer, sym is_state) in
       record {
@@ -57,40 +48,46 @@ module _ {V P O : Type 0} (R : Rules V P O) (law : CrossingLaw R) (s : State V P
         fair_copy = λ first row_room line_room history led. fair_copy_law R law first row_room line_room (and_then history call answer) t (leads_on first row_room line_room history led);
       }
 
-  -- a question was answered no
-  pub turned_away : (refusal : Refusal) → first_no (questions R s call) ≡ Some refusal → Promised R s call (Err refusal) s
-  turned_away refusal no_to =
-      let away : unless_refused R s (Some refusal) (taken R s call) ≡ step R s call = ap (λ o. unless_refused R s o (taken R s call)) (sym no_to) in
-      promised (Err refusal) s (ap (λ o. o.answer) away) (ap (λ o. o.state) away)
+  comes_to : {X : Type 0} (outcome : X → Outcome V P O) (r : Result X Refusal) → by_questions s outcome r ≡ step R s call → Promised R s call (by_questions s outcome r).answer (by_questions s outcome r).state
+  comes_to outcome r is = promised (by_questions s outcome r).answer (by_questions s outcome r).state (ap (λ x. x.answer) is) (ap (λ x. x.state) is)
 
-  -- all questions were answered yes
-  pub took : (answer : Answer V O) (t : State V P) → first_no (questions R s call) ≡ None → answer ≡ (taken R s call).answer → t ≡ (taken R s call).state → Promised R s call answer t
-  took answer t passed is_answer is_state =
-      let on : taken R s call ≡ step R s call = ap (λ o. unless_refused R s o (taken R s call)) (sym passed) in
-      promised answer t (is_answer ∙ ap (λ o. o.answer) on) (is_state ∙ ap (λ o. o.state) on)
+  -- `?` handed on the refusal
+  pub handed_on : {X : Type 0} (reply : X → Reply V O) (r : Result X Refusal) (refusal : Refusal) → IsErrAnd r (λ x. x ≡ refusal) → Promised R s call (Err refusal) s → Promised R s call (answered reply r) s
+  handed_on reply r refusal is h = let err = err_from_is_err_and r is in subst (λ y. Promised R s call (answered reply y) s) (sym (err.1 ∙ ap Err err.2)) h
 
-  -- a question was answered no, and the call returned what said so
-  pub returns_refusal : {X : Type 0} (reply : X → Reply V O) (r : Result X Refusal) (refusal : Refusal) → (x : Refusal) × (r ≡ Err x) × (x ≡ refusal) → first_no (questions R s call) ≡ Some refusal → Promised R s call (answered reply r) s
-  returns_refusal reply r refusal is no_to = subst (λ y. Promised R s call (answered reply y) s) (sym (is.1 ∙ ap Err is.2)) (turned_away refusal no_to)
+  -- ---- a call that needs no value
 
-  -- ---- calls that need the value of a cell
+  abbrev if_passed : Result (Unit {0}) Refusal → Outcome V P O
+  if_passed = by_questions s (λ (x : Unit {0}). taken R s call)
+
+  unrefused : (no_to : Option Refusal) → if_passed (unless (tt {0}) no_to) ≡ unless_refused R s no_to (taken R s call)
+  unrefused None = refl
+  unrefused (Some refusal) = refl
+
+  on_answers : (r : Result (Unit {0}) Refusal) → r ≡ passed (questions R s call) → if_passed r ≡ step R s call
+  on_answers r is = ap if_passed is ∙ unrefused (first_no (questions R s call))
+
+  -- a question is answered no ..
+  pub refused : {X : Type 0} (reply : X → Reply V O) (r : Result X Refusal) (refusal : Refusal) → IsErrAnd r (λ x. x ≡ refusal) → Err refusal ≡ passed (questions R s call) → Promised R s call (answered reply r) s
+  refused reply r refusal is no_to = handed_on reply r refusal is (comes_to (λ (x : Unit {0}). taken R s call) (Err refusal) (on_answers (Err refusal) no_to))
+
+  -- .. or none is
+  pub took : Ok (tt {0}) ≡ passed (questions R s call) → (answer : Answer V O) (t : State V P) → answer ≡ (taken R s call).answer → t ≡ (taken R s call).state → Promised R s call answer t
+  took passes answer t is_answer is_state =
+      let on : taken R s call ≡ step R s call = on_answers (Ok (tt {0})) passes in
+      promised answer t (is_answer ∙ ap (λ x. x.answer) on) (is_state ∙ ap (λ x. x.state) on)
+
+  -- ---- a call that needs the value of a cell
 
   module _ (o : Option V) (outcome : V → Outcome V P O) where
-    -- what comes of such a call, by what its questions and the value came to
-    abbrev by_value : Result V Refusal → Outcome V P O
-    by_value (Ok v) = outcome v
-    by_value (Err refusal) = rules_turn_away s refusal
+    valued : (no_to : Option Refusal) → by_questions s outcome (seen_unless o no_to) ≡ unless_refused R s no_to (at_value s o outcome)
+    valued None = elim o as (λ x. by_questions s outcome (seen_unless x None) ≡ at_value s x outcome) [ None ↦ refl | Some v ↦ refl ]
+    valued (Some refusal) = elim o as (λ x. by_questions s outcome (seen_unless x (Some refusal)) ≡ rules_turn_away s refusal) [ None ↦ refl | Some v ↦ refl ]
 
-    found : (no_to : Option Refusal) → unless_refused R s no_to (at_value s o outcome) ≡ by_value (seen_unless o no_to)
-    found None = elim o as (λ x. at_value s x outcome ≡ by_value (seen_unless x None)) [ None ↦ refl | Some v ↦ refl ]
-    found (Some refusal) = elim o as (λ x. rules_turn_away s refusal ≡ by_value (seen_unless x (Some refusal))) [ None ↦ refl | Some v ↦ refl ]
+    pub by_value : taken R s call ≡ at_value s o outcome → (r : Result V Refusal) → r ≡ seen_unless o (first_no (questions R s call)) → Promised R s call (by_questions s outcome r).answer (by_questions s outcome r).state
+    by_value is r saw = comes_to outcome r (ap (by_questions s outcome) saw ∙ valued (first_no (questions R s call)) ∙ ap (unless_refused R s (first_no (questions R s call))) (sym is))
 
-    pub promised_by_value : taken R s call ≡ at_value s o outcome → (r : Result V Refusal) → r ≡ seen_unless o (first_no (questions R s call)) → Promised R s call (by_value r).answer (by_value r).state
-    promised_by_value is r saw =
-        let comes : step R s call ≡ by_value r = ap (unless_refused R s (first_no (questions R s call))) is ∙ found (first_no (questions R s call)) ∙ ap by_value (sym saw) in
-        promised (by_value r).answer (by_value r).state (sym (ap (λ x. x.answer) comes)) (sym (ap (λ x. x.state) comes))
-
-  -- a call that only shows the value
-  pub promised_to_show : (o : Option V) (reply : V → Reply V O) → taken R s call ≡ at_value s o (λ v. record { answer = Ok (reply v); state = s }) → (r : Result V Refusal) → r ≡ seen_unless o (first_no (questions R s call)) → Promised R s call (answered reply r) s
-  promised_to_show o reply is (Ok v) saw = promised_by_value o (λ x. record { answer = Ok (reply x); state = s }) is (Ok v) saw
-  promised_to_show o reply is (Err refusal) saw = promised_by_value o (λ x. record { answer = Ok (reply x); state = s }) is (Err refusal) saw
+  -- .. and only shows it
+  pub by_shown : (o : Option V) (reply : V → Reply V O) → taken R s call ≡ at_value s o (λ v. record { answer = Ok (reply v); state = s }) → (r : Result V Refusal) → r ≡ seen_unless o (first_no (questions R s call)) → Promised R s call (answered reply r) s
+  by_shown o reply is (Ok v) saw = by_value o (λ x. record { answer = Ok (reply x); state = s }) is (Ok v) saw
+  by_shown o reply is (Err refusal) saw = by_value o (λ x. record { answer = Ok (reply x); state = s }) is (Err refusal) saw

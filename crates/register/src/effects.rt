@@ -8,6 +8,7 @@ use crate::Register;
 use cells::kinds::Kind;
 use rules::lines::Line;
 use rules::rows::Row;
+use tables::elders::Entries;
 
 impl<'a, V: Copy, P: Copy> Register<'a, V, P> {
     /// The next number stands under the parent.
@@ -44,7 +45,7 @@ impl<'a, V: Copy, P: Copy> Register<'a, V, P> {
         ensures state { view self.new ≡ committed_state (K.rules kind.now) (view self.old) entry }
         ensures tables { SameTables self.new self.old }
     {
-        self.values.commit(kind, &self.lines, entry);
+        self.values.commit(kind, self.lines.as_slice(), entry);
         self.lines.end(entry);
         self.rows.end(entry);
     }
@@ -65,7 +66,8 @@ impl<'a, V: Copy, P: Copy> Register<'a, V, P> {
         ensures tables { SameTables self.new self.old }
     {
         // The lines first: the rows tell whose elder the entry is.
-        self.lines.drop_inside(&self.rows, entry);
+        self.lines
+            .drop_inside(&Entries::of(self.rows.as_slice()), entry);
         self.rows.end_inside(entry);
     }
 }

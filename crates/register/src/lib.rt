@@ -3,7 +3,6 @@
 
 ghost use Rattle.std.specs.Prelude.{◌≡◌, true};
 ghost use Rattle.tables.specs.Order.{are_in_order, numbered_to};
-ghost use Rattle.tables.specs.Tables.{standing, within};
 
 use tables::records::{Lines, Rows};
 use tables::values::Values;
@@ -24,8 +23,6 @@ pub struct Register<'a, V, P> {
     begun: u16,
     /// Were the tables within their sizes at set-up, and all first values lawful?
     sound: bool,
-    ghost rows_within: { within rows },
-    ghost lines_within: { within lines },
-    ghost in_order: { are_in_order (standing rows) ≡ true },
-    ghost numbered: { numbered_to begun (standing rows) ≡ true },
+    ghost in_order: { are_in_order rows.standing ≡ true },
+    ghost numbered: { numbered_to begun rows.standing ≡ true },
 }

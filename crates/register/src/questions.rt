@@ -12,42 +12,42 @@ use crate::Register;
 use cells::kinds::Kind;
 use rules::lines::Line;
 use rules::refusals::Refusal;
-use tables::{elders, searches};
+use tables::elders::{self, Entries};
+use tables::searches::Search;
 
 /// The last number that an entry can get.
 const LAST_NUMBER: u16 = 65_535;
+
+/// A question: yes, or no with the refusal that says so.
+fn ask(answer: bool, refusal: Refusal) -> Result<(), Refusal>
+    ensures { result ≡ passed (ask answer refusal ∷ []) }
+{
+    if answer { Ok(()) } else { Err(refusal) }
+}
 
 impl<'a, V: Copy, P: Copy> Register<'a, V, P> {
     /// Questions 1, 2, 8 and 10: may an entry be begun under the parent?
     pub(crate) fn may_begin(&self, parent: u16) -> Result<(), Refusal>
         ensures { result ≡ passed (ask (view self.now).sound Unsound ∷ ask (parent == 0 || stands (view self.now).rows parent) NotStanding ∷ ask (nat_lt (length (view self.now).rows) (view self.now).row_room) NoFreeRow ∷ ask (nat_lt (view self.now).begun 65535) NoNumberLeft ∷ []) }
     {
-        if !self.sound {
-            return Err(Refusal::Unsound);
-        }
-        if !elders::is_placed(self.rows.as_slice(), parent) {
-            return Err(Refusal::NotStanding);
-        }
-        if self.rows.is_full() {
-            return Err(Refusal::NoFreeRow);
-        }
-        if self.begun == LAST_NUMBER {
-            return Err(Refusal::NoNumberLeft);
-        }
-        Ok(())
+        ask(self.sound, Refusal::Unsound)?;
+        ask(
+            elders::is_placed(self.rows.as_slice(), parent),
+            Refusal::NotStanding,
+        )?;
+        ask(!self.rows.is_full(), Refusal::NoFreeRow)?;
+        ask(self.begun < LAST_NUMBER, Refusal::NoNumberLeft)
     }
 
     /// Questions 1 and 2: does the entry stand?
     pub(crate) fn stands(&self, entry: u16) -> Result<(), Refusal>
         ensures { result ≡ passed (ask (view self.now).sound Unsound ∷ ask (stands (view self.now).rows entry) NotStanding ∷ []) }
     {
-        if !self.sound {
-            return Err(Refusal::Unsound);
-        }
-        if !elders::is_standing(self.rows.as_slice(), entry) {
-            return Err(Refusal::NotStanding);
-        }
-        Ok(())
+        ask(self.sound, Refusal::Unsound)?;
+        ask(
+            elders::is_standing(self.rows.as_slice(), entry),
+            Refusal::NotStanding,
+        )
     }
 
     /// Questions 1, 2 and 3: does the entry stand, and has it no standing child?
@@ -55,10 +55,10 @@ impl<'a, V: Copy, P: Copy> Register<'a, V, P> {
         ensures { result ≡ passed (ask (view self.now).sound Unsound ∷ ask (stands (view self.now).rows entry) NotStanding ∷ ask (childless (view self.now).rows entry) HasChild ∷ []) }
     {
         self.stands(entry)?;
-        if !elders::is_childless(self.rows.as_slice(), entry) {
-            return Err(Refusal::HasChild);
-        }
-        Ok(())
+        ask(
+            elders::is_childless(self.rows.as_slice(), entry),
+            Refusal::HasChild,
+        )
     }
 
     /// Questions 1 to 6 and 9: what the posting sees, if it may be made.
@@ -72,32 +72,16 @@ impl<'a, V: Copy, P: Copy> Register<'a, V, P> {
         ensures { result ≡ seen_unless (seen (K.rules kind.now) (view self.now) entry cell) (first_no (questions (K.rules kind.now) (view self.now) (Post entry cell posting))) }
     {
         self.stands_alone(entry)?;
-        let Some(committed) = self.values.get(cell) else {
-            return Err(Refusal::NoSuchCell);
-        };
-        if !kind.is_lawful_posting(posting) {
-            return Err(Refusal::UnlawfulPosting);
-        }
+        let committed = self.values.get(cell).ok_or(Refusal::NoSuchCell)?;
+        ask(kind.is_lawful_posting(posting), Refusal::UnlawfulPosting)?;
         let wanted = Line {
             holder: entry,
             cell,
             posting,
         };
-        match searches::meet(
-            kind,
-            self.rows.as_slice(),
-            self.lines.as_slice(),
-            &wanted,
-            committed,
-        ) {
-            Err(holder) => Err(Refusal::InTheWay { holder }),
-            Ok(seen) => {
-                if self.lines.is_full() {
-                    return Err(Refusal::NoFreeLine);
-                }
-                Ok(seen)
-            }
-        }
+        let seen = self.search(kind).meet(&wanted, committed)?;
+        ask(!self.lines.is_full(), Refusal::NoFreeLine)?;
+        Ok(seen)
     }
 
     /// Questions 1, 2, 3 and 7: may the entry be published?
@@ -109,7 +93,7 @@ impl<'a, V: Copy, P: Copy> Register<'a, V, P> {
         ensures { result ≡ passed (questions (K.rules kind.now) (view self.now) (Publish entry)) }
     {
         self.stands_alone(entry)?;
-        match searches::elder_in_the_way(kind, self.rows.as_slice(), self.lines.as_slice(), entry) {
+        match self.search(kind).elder_in_the_way(entry) {
             Some(holder) => Err(Refusal::HeldByElder { holder }),
             None => Ok(()),
         }
@@ -119,9 +103,20 @@ impl<'a, V: Copy, P: Copy> Register<'a, V, P> {
     pub(crate) fn may_show(&self, cell: usize) -> Result<V, Refusal>
         ensures { result ≡ seen_unless (value_at (view self.now).values cell) (first_no (ask (view self.now).sound Unsound ∷ ask (nat_lt cell (length (view self.now).values)) NoSuchCell ∷ [])) }
     {
-        if !self.sound {
-            return Err(Refusal::Unsound);
-        }
+        ask(self.sound, Refusal::Unsound)?;
         self.values.get(cell).ok_or(Refusal::NoSuchCell)
+    }
+
+    /// What questions 6 and 7 look through.
+    fn search<'s, K: Kind<Value = V, Posting = P>>(&'s self, kind: &'s K) -> Search<'s, K>
+        ensures kind { result.kind.now ≡ kind.now }
+        ensures entries { result.entries.rows.now ≡ (view self.now).rows }
+        ensures lines { result.lines.now ≡ (view self.now).lines }
+    {
+        Search {
+            kind,
+            entries: Entries::of(self.rows.as_slice()),
+            lines: self.lines.as_slice(),
+        }
     }
 }

@@ -29,9 +29,9 @@ impl<'a, V: Copy, P: Copy> Register<'a, V, P> {
     ) -> Self
         ensures state { view result ≡ set_up (K.rules kind.now) values.old (length rows.old) (length lines.old) }
         ensures law { LedTo (K.rules kind.now) values.old (length rows.old) (length lines.old) [] (view result) }
-        ensures values { result.values.cells.ghost_name ≡ values.entry.ghost_name }
-        ensures rows { result.rows.places.ghost_name ≡ rows.entry.ghost_name }
-        ensures lines { result.lines.places.ghost_name ≡ lines.entry.ghost_name }
+        ensures values { result.values.slice ≡ values.entry.ghost_name }
+        ensures rows { result.rows.slice ≡ rows.entry.ghost_name }
+        ensures lines { result.lines.slice ≡ lines.entry.ghost_name }
     {
         let sizes_fit = is_within(values.len(), MOST_CELLS)
             && is_within(rows.len(), MOST_ROWS)

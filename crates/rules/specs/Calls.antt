@@ -1,5 +1,6 @@
 -- The rules of the calls: the questions to each in their order, and what it does and answers if none turns it away. Assumes nothing.
 use Rattle.std.specs.Prelude.{ℕ, ◌+◌, Bool, true, false, cond, not, ◌&&◌, ◌||◌, List, [], ◌∷◌, ◌++◌, map, length, Some, None, Ok, Err, fold, filter, Option, Result, ◌==◌, nat_lt}
+use Rattle.std.specs.List.{list_any}
 use Rattle.cells.specs.Kinds.{Rules}
 use Rattle.cells.specs.Sequences.{after_all}
 use Rattle.rules.specs.declared.lines.Line.{Line}
@@ -41,8 +42,7 @@ module _ {P : Type 0} where
   pass_on e q ls = map (λ l. record { holder = holder_after e q l.holder; cell = l.cell; posting = l.posting }) ls
 
   abbrev pub some_line : (Line P → Bool) → List (Line P) → Bool
-  some_line test [] = false
-  some_line test (l ∷ ls) = test l || some_line test ls
+  some_line test ls = list_any test ls
 
   -- the holder of the earliest posted line that passes a test
   abbrev pub earliest_holder : (Line P → Bool) → List (Line P) → Option ℕ

@@ -1,5 +1,6 @@
 -- The standing entries: which one stands under which, and which is an elder of which. Assumes nothing.
-use Rattle.std.specs.Prelude.{◌≡◌, ℕ, zero, suc, Bool, true, false, cond, not, ◌&&◌, ◌||◌, List, [], ◌∷◌, filter, ◌==◌, ◌≢◌}
+use Rattle.std.specs.Prelude.{◌≡◌, ℕ, zero, suc, Bool, false, cond, not, ◌||◌, List, [], ◌∷◌, filter, ◌==◌, ◌≢◌}
+use Rattle.std.specs.List.{list_all}
 use Rattle.rules.specs.declared.rows.Row.{Row}
 
 -- does an entry stand?
@@ -9,8 +10,7 @@ stands (r ∷ rows) e = r.entry == e || stands rows e
 
 -- has it no standing child?
 abbrev pub childless : List Row → ℕ → Bool
-childless [] e = true
-childless (r ∷ rows) e = not (r.parent == e) && childless rows e
+childless rows e = list_all (λ r. not (r.parent == e)) rows
 
 -- its parent, which is 0 (the register itself) for a top entry; also 0 where it does not stand
 abbrev pub parent_of : List Row → ℕ → ℕ

@@ -1,5 +1,6 @@
 -- What a register holds. Assumes nothing.
-use Rattle.std.specs.Prelude.{ℕ, Bool, true, ◌&&◌, List, [], ◌∷◌, length, nat_le, nat_lt}
+use Rattle.std.specs.Prelude.{ℕ, Bool, ◌&&◌, List, [], length, nat_le, nat_lt}
+use Rattle.std.specs.List.{list_all}
 use Rattle.cells.specs.Kinds.{Rules}
 use Rattle.rules.specs.declared.rows.Row.{Row}
 use Rattle.rules.specs.declared.lines.Line.{Line}
@@ -25,8 +26,7 @@ size_within n most = nat_lt 0 n && nat_le n most
 
 module _ {V P O : Type 0} (R : Rules V P O) where
   abbrev pub all_lawful : List V → Bool
-  all_lawful [] = true
-  all_lawful (v ∷ vs) = R.value_lawful v && all_lawful vs
+  all_lawful vs = list_all R.value_lawful vs
 
   -- 1 to 4,096 cells, 1 to 256 rows, 1 to 4,096 lines, and lawful first values
   abbrev pub sound_for : List V → ℕ → ℕ → Bool

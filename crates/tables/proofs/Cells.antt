@@ -1,17 +1,12 @@
 -- Values of cells, by index.
-use Rattle.std.proofs.Common.{◌≡◌, ℕ, zero, suc, ◌<◌, ◌≤◌, List, [], ◌∷◌, length, get_or, set, Some, None, refl, ap, arith}
-use Rattle.rules.specs.Cells.{value_at, change_at}
+use Rattle.std.proofs.Common.{◌≡◌, ℕ, zero, suc, ◌<◌, ◌≤◌, List, [], ◌∷◌, length, get_or, set, refl, ap, arith}
+use Rattle.std.specs.Borrow.{GName}
+use Rattle.rules.specs.Cells.{change_at}
+use Rattle.tables.specs.Tables.{Cells}
 
 module _ {V : Type 0} where
-  pub value_some : (vs : List V) (i : ℕ) (v : V) → i < length vs → v ≡ get_or vs i v → Some v ≡ value_at vs i
-  value_some [] i v h is = absurd (omega arith)
-  value_some (x ∷ vs) zero v h is = ap Some is
-  value_some (x ∷ vs) (suc i) v h is = value_some vs i v (omega arith) is
-
-  pub value_none : (vs : List V) (i : ℕ) → length vs ≤ i → None ≡ value_at vs i
-  value_none [] i h = refl
-  value_none (x ∷ vs) zero h = absurd (omega arith)
-  value_none (x ∷ vs) (suc i) h = value_none vs i (omega arith)
+  abbrev pub cells : List V → GName → Cells V
+  cells values slice = record { values = values; slice = slice }
 
   -- a write to a cell
   pub change_set : (f : V → V) (vs : List V) (i : ℕ) (v : V) → i < length vs → v ≡ get_or vs i v → set vs i (f v) ≡ change_at f vs i

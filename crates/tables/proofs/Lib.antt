@@ -1,7 +1,7 @@
 pub mod InOrder
 mod Finding
-mod Turns
-mod Sifting
-mod Passing
 mod Cells
 mod Searching
+mod Closing
+mod Passing
+mod Outside

@@ -1,4 +1,5 @@
 pub mod Tables
 pub mod Order
 pub mod Places
+pub mod Closing
 pub mod Searches

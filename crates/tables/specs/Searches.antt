@@ -4,13 +4,15 @@ use Rattle.cells.specs.Kinds.{Rules}
 use Rattle.cells.specs.Sequences.{after_all}
 use Rattle.rules.specs.declared.lines.Line.{Line}
 use Rattle.rules.specs.declared.rows.Row.{Row}
+use Rattle.rules.specs.declared.refusals.Refusal.{Refusal}
+use Rattle.rules.specs.declared.refusals.Refusal.TheVariants.{InTheWay}
 use Rattle.rules.specs.Entries.{elders, is_among, is_own_or_elder}
 use Rattle.rules.specs.Calls.{some_line}
 
--- the value seen, unless a line is in the way: then its holder
-abbrev pub met : {V : Type 0} → V → Option ℕ → Result V ℕ
+-- the value seen, unless a line is in the way: then the refusal that names its holder
+abbrev pub met : {V : Type 0} → V → Option ℕ → Result V Refusal
 met v None = Ok v
-met v (Some holder) = Err holder
+met v (Some holder) = Err (InTheWay holder)
 
 module _ {V P O : Type 0} (R : Rules V P O) where
   -- what a value becomes by the lines on a cell that the entry or an elder holds, in posting order

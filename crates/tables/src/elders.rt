@@ -10,12 +10,7 @@ use rules::rows::Row;
 pub fn place_of(rows: &[Row], entry: u16) -> Option<usize>
     ensures { MatchOption result (HasNoRow rows.now entry) (HasItsRow rows.now entry) }
 {
-    for (place, row) in rows.iter().enumerate() {
-        if row.entry == entry {
-            return Some(place);
-        }
-    }
-    None
+    rows.iter().position(|row| row.entry == entry)
 }
 
 /// Does the entry stand?
@@ -36,12 +31,7 @@ pub fn is_placed(rows: &[Row], parent: u16) -> bool
 pub fn is_childless(rows: &[Row], entry: u16) -> bool
     ensures { result ≡ childless rows.now entry }
 {
-    for row in rows {
-        if row.parent == entry {
-            return false;
-        }
-    }
-    true
+    rows.iter().all(|row| row.parent != entry)
 }
 
 /// The parent of an entry; 0 for a top entry, and for one that does not stand.
@@ -54,27 +44,42 @@ pub fn parent_of(rows: &[Row], entry: u16) -> u16
     }
 }
 
-/// Is `elder` an elder of the entry: its parent, where that is not 0, or an elder of its parent?
-pub fn is_elder(rows: &[Row], elder: u16, entry: u16) -> bool
-    requires { are_in_order rows.now ≡ true }
-    ensures listed { result ≡ is_among (elders rows.now entry) elder }
-    ensures related { Decides result (Elder rows.now elder entry) }
-{
-    // An elder was begun before: most lines of other entries are told by this alone.
-    if entry <= elder {
-        return false;
-    }
-    let parent = parent_of(rows, entry);
-    if parent == 0 {
-        return false;
-    }
-    parent == elder || is_elder(rows, elder, parent)
+/// The standing entries, each after its parent, as they were begun.
+#[derive(Clone, Copy)]
+pub struct Entries<'a> {
+    rows: &'a [Row],
+    ghost in_order: { are_in_order rows.now ≡ true },
 }
 
-/// Is `holder` the entry itself or one of its elders?
-pub fn is_own_or_elder(rows: &[Row], entry: u16, holder: u16) -> bool
-    requires { are_in_order rows.now ≡ true }
-    ensures { result ≡ is_own_or_elder rows.now entry holder }
-{
-    holder == entry || is_elder(rows, holder, entry)
+impl<'a> Entries<'a> {
+    /// The entries of these rows.
+    pub fn of(rows: &'a [Row]) -> Self
+        requires { are_in_order rows.now ≡ true }
+        ensures { result.rows.now ≡ rows.now }
+    {
+        Entries { rows }
+    }
+
+    /// Is `elder` an elder of the entry: its parent, where that is not 0, or an elder of its parent?
+    pub fn is_elder(&self, elder: u16, entry: u16) -> bool
+        ensures listed { result ≡ is_among (elders self.now.rows.now entry) elder }
+        ensures related { Decides result (Elder self.now.rows.now elder entry) }
+    {
+        // An elder was begun before: most lines of other entries are told by this alone.
+        if entry <= elder {
+            return false;
+        }
+        let parent = parent_of(self.rows, entry);
+        if parent == 0 {
+            return false;
+        }
+        parent == elder || self.is_elder(elder, parent)
+    }
+
+    /// Is `holder` the entry itself or one of its elders?
+    pub fn is_own_or_elder(&self, entry: u16, holder: u16) -> bool
+        ensures { result ≡ is_own_or_elder self.now.rows.now entry holder }
+    {
+        holder == entry || self.is_elder(holder, entry)
+    }
 }

@@ -1,9 +1,10 @@
 // A table of records over a slice that the host handed over. Rows and lines stand in such tables.
-ghost use Rattle.std.specs.Prelude.{◌≡◌, ℕ, false, not, [], ◌∷◌, ◌++◌, length, filter, ◌==◌, nat_le};
-ghost use Rattle.tables.specs.Tables.{has_room, room, standing, within};
+ghost use Rattle.std.specs.Prelude.{◌≡◌, ℕ, ◌<◌, ◌≤◌, false, [], ◌∷◌, ◌++◌, length, take, filter, ◌==◌, not, nat_le};
+ghost use Rattle.tables.specs.Closing.{IsClosedUp};
 
 use rules::lines::Line;
 use rules::rows::Row;
+use std::marker::Model;
 
 mod lines;
 mod rows;
@@ -14,6 +15,18 @@ mod rows;
 pub struct Table<'a, T> {
     places: &'a mut [T],
     filled: usize,
+}
+
+// Clauses see the records that stand, how many there is room for, and in which slice.
+impl<'a, T> Model for Table<'a, T> {
+    ghost use Rattle.std.specs.Prelude.{◌≤◌, length, take};
+    ghost use Rattle.tables.specs.Tables.{Records};
+
+    ghost Value = { Records T };
+
+    ghost view = { λ t. record { standing = take t.filled t.places.now; room = length t.places.now; slice = t.places.ghost_name } };
+
+    ghost invariant = { λ t. t.filled ≤ length t.places.now };
 }
 
 /// The standing entries, first begun to last begun.
@@ -50,38 +63,30 @@ impl<P> Owned for Line<P> {
 impl<'a, T: Copy> Table<'a, T> {
     /// A table over the slice, with all of its places free.
     pub fn over(places: &'a mut [T]) -> Self
-        ensures empty { standing result ≡ [] }
-        ensures size { room result ≡ length places.old }
-        ensures within { within result }
-        ensures home { result.places.ghost_name ≡ places.entry.ghost_name }
+        ensures { result ≡ record { standing = []; room = length places.old; slice = places.entry.ghost_name } }
     {
         Table { places, filled: 0 }
     }
 
     /// The records that stand, in the order in which they came.
     pub fn as_slice(&self) -> &[T]
-        requires { within self.now }
-        ensures { result.now ≡ standing self.now }
+        ensures { result.now ≡ self.now.standing }
     {
         &self.places[0..self.filled]
     }
 
     /// Is no place free?
     pub fn is_full(&self) -> bool
-        requires { within self.now }
-        ensures full { result ≡ nat_le (room self.now) (length (standing self.now)) }
-        ensures free { result ≡ false → has_room self.now }
+        ensures full { result ≡ nat_le self.now.room (length self.now.standing) }
+        ensures free { result ≡ false → length self.now.standing < self.now.room }
     {
         self.places.len() <= self.filled
     }
 
     /// Fills the next free place, of which there has to be one.
     pub fn push(&mut self, added: T)
-        requires { has_room self.old }
-        ensures standing { standing self.new ≡ standing self.old ++ (added ∷ []) }
-        ensures size { room self.new ≡ room self.old }
-        ensures within { within self.new }
-        ensures home { self.new.places.ghost_name ≡ self.old.places.ghost_name }
+        requires { length self.old.standing < self.old.room }
+        ensures { self.new ≡ record self.old { standing = self.old.standing ++ added ∷ [] } }
     {
         self.places[self.filled] = added;
         self.filled += 1;
@@ -91,20 +96,30 @@ impl<'a, T: Copy> Table<'a, T> {
 impl<'a, T: Copy + Owned> Table<'a, T> {
     /// Frees the places of one entry's records; the others close up and stay in their order.
     pub fn end(&mut self, entry: u16)
-        requires { within self.old }
-        ensures standing { standing self.new ≡ filter (λ t. not (T.whose t == entry)) (standing self.old) }
-        ensures size { room self.new ≡ room self.old }
-        ensures within { within self.new }
-        ensures home { self.new.places.ghost_name ≡ self.old.places.ghost_name }
+        ensures { self.new ≡ record self.old { standing = filter (λ t. not (T.whose t == entry)) self.old.standing } }
     {
-        let mut next = 0;
-        for i in 0..self.filled {
-            let item = self.places[i];
-            if item.owner() != entry {
-                self.places[next] = item;
-                next += 1;
-            }
-        }
-        self.filled = next;
+        self.filled = close_up(
+            &mut self.places[..self.filled],
+            |_, item| item.owner() != entry,
+        );
     }
+}
+
+/// Moves the items that stay to the front, in their order, and counts them. Whether an item stays is
+/// asked with those before it that stay.
+fn close_up<T: Copy, F: Fn(&[T], &T) -> bool>(items: &mut [T], stays: F) -> usize
+    requires { F.IsAlwaysCallable stays }
+    ensures closed { IsClosedUp F.Fn stays items.old (take result items.new) }
+    ensures bound { result ≤ length items.old }
+    ensures size { length items.new ≡ length items.old }
+{
+    let mut kept = 0;
+    for i in 0..items.len() {
+        let item = items[i];
+        if stays(&items[..kept], &item) {
+            items[kept] = item;
+            kept += 1;
+        }
+    }
+    kept
 }

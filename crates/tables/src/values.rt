@@ -3,10 +3,11 @@ ghost use Rattle.std.specs.Prelude.{◌≡◌, length, is_some, nat_lt};
 ghost use Rattle.rules.specs.Calls.{commit, held_by};
 ghost use Rattle.rules.specs.Cells.{store, value_at};
 ghost use Rattle.rules.specs.States.{all_lawful};
-ghost use Rattle.tables.specs.Tables.{committed, standing, within};
 
 use crate::records::Lines;
 use cells::kinds::Kind;
+use rules::lines::Line;
+use std::marker::Model;
 
 /// The value at a place is that of the cell with this number.
 #[derive(Drop)]
@@ -14,53 +15,52 @@ pub struct Values<'a, V> {
     cells: &'a mut [V],
 }
 
+// Clauses see the values, and in which slice they are.
+impl<'a, V> Model for Values<'a, V> {
+    ghost use Rattle.tables.specs.Tables.{Cells};
+
+    ghost Value = { Cells V };
+
+    ghost view = { λ vs. record { values = vs.cells.now; slice = vs.cells.ghost_name } };
+}
+
 impl<'a, V: Copy> Values<'a, V> {
     /// The values that the slice has, left as they are.
     pub fn over(cells: &'a mut [V]) -> Self
-        ensures same { committed result ≡ cells.old }
-        ensures home { result.cells.ghost_name ≡ cells.entry.ghost_name }
+        ensures { result ≡ record { values = cells.old; slice = cells.entry.ghost_name } }
     {
         Values { cells }
     }
 
     /// The value of a cell; none where there is no such cell.
     pub fn get(&self, cell: usize) -> Option<V>
-        ensures value { result ≡ value_at (committed self.now) cell }
-        ensures there { is_some result ≡ nat_lt cell (length (committed self.now)) }
+        ensures value { result ≡ value_at self.now.values cell }
+        ensures there { is_some result ≡ nat_lt cell (length self.now.values) }
     {
-        let cells: &[V] = &*self.cells;
-        if cell < cells.len() {
-            Some(cells[cell])
-        } else {
-            None
-        }
+        self.cells.get(cell).copied()
     }
 
     /// Does the kind allow all of the values?
     pub fn are_lawful<K: Kind<Value = V>>(&self, kind: &K) -> bool
-        ensures { result ≡ all_lawful (K.rules kind.now) (committed self.now) }
+        ensures { result ≡ all_lawful (K.rules kind.now) self.now.values }
     {
         are_lawful(kind, self.cells)
     }
 
     /// Stores the value after the posting, where there is such a cell.
     pub fn store<K: Kind<Value = V>>(&mut self, kind: &K, cell: usize, posting: K::Posting)
-        ensures stored { committed self.new ≡ store (K.rules kind.now) (committed self.old) cell posting }
-        ensures home { self.new.cells.ghost_name ≡ self.old.cells.ghost_name }
+        ensures { self.new ≡ record self.old { values = store (K.rules kind.now) self.old.values cell posting } }
     {
         if cell < self.cells.len() {
-            let found = self.cells[cell];
-            self.cells[cell] = kind.after(found, posting);
+            self.cells[cell] = kind.after(self.cells[cell], posting);
         }
     }
 
     /// Those of the lines that the entry holds change the values, in their order.
-    pub fn commit<K: Kind<Value = V>>(&mut self, kind: &K, lines: &Lines<K::Posting>, entry: u16)
-        requires { within lines.now }
-        ensures stored { committed self.new ≡ commit (K.rules kind.now) (committed self.old) (held_by entry (standing lines.now)) }
-        ensures home { self.new.cells.ghost_name ≡ self.old.cells.ghost_name }
+    pub fn commit<K: Kind<Value = V>>(&mut self, kind: &K, lines: &[Line<K::Posting>], entry: u16)
+        ensures { self.new ≡ record self.old { values = commit (K.rules kind.now) self.old.values (held_by entry lines.now) } }
     {
-        for line in lines.as_slice() {
+        for line in lines {
             if line.holder == entry {
                 self.store(kind, line.cell, line.posting);
             }
@@ -71,10 +71,5 @@ impl<'a, V: Copy> Values<'a, V> {
 fn are_lawful<K: Kind>(kind: &K, values: &[K::Value]) -> bool
     ensures { result ≡ all_lawful (K.rules kind.now) values.now }
 {
-    for value in values {
-        if !kind.is_lawful_value(*value) {
-            return false;
-        }
-    }
-    true
+    values.iter().all(|value| kind.is_lawful_value(*value))
 }

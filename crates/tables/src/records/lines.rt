@@ -1,47 +1,36 @@
 // Lines that change hands, and lines that end without effect.
-ghost use Rattle.std.specs.Prelude.{◌≡◌, true, not, filter};
+ghost use Rattle.std.specs.Prelude.{◌≡◌, not, filter};
 ghost use Rattle.rules.specs.Calls.{pass_on};
 ghost use Rattle.rules.specs.Entries.{is_own_or_elder};
-ghost use Rattle.tables.specs.Tables.{room, standing, within};
-ghost use Rattle.tables.specs.Order.{are_in_order};
 
-use super::{Lines, Rows};
-use crate::elders;
+use super::{Lines, close_up};
+use crate::elders::Entries;
+use rules::lines::Line;
 
 impl<'a, P: Copy> Lines<'a, P> {
     /// What one entry holds passes to another, each line in its place.
     pub fn pass_on(&mut self, from: u16, to: u16)
-        requires { within self.old }
-        ensures standing { standing self.new ≡ pass_on from to (standing self.old) }
-        ensures size { room self.new ≡ room self.old }
-        ensures within { within self.new }
-        ensures home { self.new.places.ghost_name ≡ self.old.places.ghost_name }
+        ensures { self.new ≡ record self.old { standing = pass_on from to self.old.standing } }
     {
-        for i in 0..self.filled {
-            if self.places[i].holder == from {
-                self.places[i].holder = to;
-            }
-        }
+        pass_on(&mut self.places[..self.filled], from, to);
     }
 
     /// Frees the lines of the entry and of every entry that has it as an elder.
-    pub fn drop_inside(&mut self, rows: &Rows, entry: u16)
-        requires within { within self.old }
-        requires rows { within rows.now }
-        requires order { are_in_order (standing rows.now) ≡ true }
-        ensures standing { standing self.new ≡ filter (λ line. not (is_own_or_elder (standing rows.now) line.holder entry)) (standing self.old) }
-        ensures size { room self.new ≡ room self.old }
-        ensures within { within self.new }
-        ensures home { self.new.places.ghost_name ≡ self.old.places.ghost_name }
+    pub fn drop_inside(&mut self, entries: &Entries<'_>, entry: u16)
+        ensures { self.new ≡ record self.old { standing = filter (λ line. not (is_own_or_elder entries.now.rows.now line.holder entry)) self.old.standing } }
     {
-        let mut next = 0;
-        for i in 0..self.filled {
-            let line = self.places[i];
-            if !elders::is_own_or_elder(rows.as_slice(), line.holder, entry) {
-                self.places[next] = line;
-                next += 1;
-            }
+        self.filled = close_up(&mut self.places[..self.filled], |_, line| {
+            !entries.is_own_or_elder(line.holder, entry)
+        });
+    }
+}
+
+fn pass_on<P>(lines: &mut [Line<P>], from: u16, to: u16)
+    ensures { lines.new ≡ pass_on from to lines.old }
+{
+    for line in lines {
+        if line.holder == from {
+            line.holder = to;
         }
-        self.filled = next;
     }
 }

@@ -1,15 +1,8 @@
-use Rattle.std.proofs.Common.{◌+◌, refl, ap, ◌∙◌}
-use Rattle.tables.specs.Order.{are_in_order, numbered_to}
-use Rattle.tables.specs.Tables.{standing}
-use Rattle.tables.proofs.InOrder.{in_order_push, numbered_push}
+use Rattle.register.proofs.Rows.{one_begun}
 use Rattle.register.proofs.Register.enter.Goals as goal
 
-pub invariant_of-self-clause-in_order : goal.invariant_of-self-clause-in_order
-invariant_of-self-clause-in_order g c =
+pub invariant_of-self : goal.invariant_of-self
+invariant_of-self g c =
     let s = c.args.self.now in
-    ap are_in_order c.push.ensures.standing ∙ in_order_push (standing s.rows) s.in_order s.begun _ s.numbered refl c.requires.placed
-
-pub invariant_of-self-clause-numbered : goal.invariant_of-self-clause-numbered
-invariant_of-self-clause-numbered g c =
-    let s = c.args.self.now in
-    ap (numbered_to (s.begun + 1)) c.push.ensures.standing ∙ numbered_push s.begun (standing s.rows) _ s.numbered refl
+    let rows = one_begun s.begun s.rows _ s.in_order s.numbered c.args.parent c.requires.placed c.push.ensures in
+    record { in_order = rows.in_order; numbered = rows.numbered }
