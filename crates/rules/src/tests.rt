@@ -1,7 +1,9 @@
-// What a refusal tells the caller: the number of the question, and a holder. And how refusals, calls
-// and replies are written.
+// What a refusal tells the caller: the number of the question, and a holder. How refusals, calls and
+// replies are written, and what a table holds that is filled with defaults.
 use crate::calls::{Call, Reply};
+use crate::lines::Line;
 use crate::refusals::Refusal;
+use crate::rows::Row;
 use cells::answers::Answer;
 use cells::levels::LevelPosting;
 use std::test::Fail;
@@ -104,4 +106,25 @@ fn replies_read_as_in_answer_lines(rt: HostRuntime) -> Result<(), Fail> {
         assert_eq!(rt; written.as_str(), text);
     }
     Ok(())
+}
+
+#[test]
+fn tables_can_be_filled_with_defaults(rt: HostRuntime) {
+    let rows = [Row::default(); 2];
+    assert_eq!(rt;
+        rows[1],
+        Row {
+            entry: 0,
+            parent: 0
+        }
+    );
+    let lines = [Line::default(); 2];
+    assert_eq!(rt;
+        lines[1],
+        Line {
+            holder: 0,
+            cell: 0,
+            posting: LevelPosting::Look,
+        }
+    );
 }
