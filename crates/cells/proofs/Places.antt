@@ -1,14 +1,11 @@
 -- A posting that crosses each of a list may stand anywhere among them.
-use Rattle.std.proofs.Common.{◌≡◌, true, List, [], ◌∷◌, ◌++◌, take, drop, sym, refl, ap, ◌∙◌}
+use Rattle.std.proofs.Common.{◌≡◌, true, List, [], ◌∷◌, take, drop, sym, refl, ap, ◌∙◌}
 use Rattle.std.specs.List.{All}
 use Rattle.std.proofs.lemmas.List.{take-append-drop}
+use Rattle.std.proofs.lemmas.List.Sums.{fold-append}
 use Rattle.std.proofs.lemmas.List.Elements.{All-head, All-tail, All-take, All-drop, All-from_all_within}
 use Rattle.cells.specs.Kinds.{Rules, CrossingLaw}
 use Rattle.cells.specs.Sequences.{after_all, answers_of, CrossesEach, StandsAnywhere}
-
-after_all_append : {V P O : Type 0} (R : Rules V P O) (v : V) (ps qs : List P) → after_all R v (ps ++ qs) ≡ after_all R (after_all R v ps) qs
-after_all_append R v [] qs = refl
-after_all_append R v (p ∷ ps) qs = after_all_append R (R.after v p) ps qs
 
 -- The posting q may be made at v before all of ps as well as after them.
 record SameBeforeAndAfter {V P O : Type 0} (R : Rules V P O) (q : P) (v : V) (ps : List P) : Type 0 where
@@ -57,7 +54,7 @@ module _ {V P O : Type 0} {R : Rules V P O} (law : CrossingLaw R) where
         own_answer = at_front.own_answer;
         other_answers = at_back.other_answers;
         end_value =
-            after_all_append R v front (q ∷ back)
+            fold-append R.after v front (q ∷ back)
             ∙ at_back.end_value
-            ∙ ap (λ w. R.after w q) (sym (after_all_append R v front back) ∙ ap (after_all R v) (take-append-drop i ps));
+            ∙ ap (λ w. R.after w q) (sym (fold-append R.after v front back) ∙ ap (after_all R v) (take-append-drop i ps));
       }
