@@ -1,5 +1,5 @@
 -- Postings one after another, and what it means that the place of one among others makes no difference. Assumes nothing.
-use Rattle.std.specs.Prelude.{◌≡◌, ℕ, true, cond, List, [], ◌∷◌, ◌++◌, length, take, drop, Some, None, Option}
+use Rattle.std.specs.Prelude.{◌≡◌, ℕ, true, cond, List, [], ◌∷◌, ◌++◌, length, take, drop, fold, Some, None, Option}
 use Rattle.std.specs.List.{AllWithin}
 use Rattle.cells.specs.Kinds.{Rules}
 
@@ -13,8 +13,7 @@ module _ {V P O : Type 0} (R : Rules V P O) where
 
   -- the value after all of a list of postings, made in their order
   abbrev pub after_all : V → List P → V
-  after_all v [] = v
-  after_all v (p ∷ ps) = after_all (R.after v p) ps
+  after_all = fold R.after
 
   -- the answers that they get
   abbrev pub answers_of : V → List P → List O

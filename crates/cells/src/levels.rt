@@ -8,8 +8,9 @@ use crate::answers::Answer;
 use crate::kinds::Kind;
 use std::fmt;
 
-#[derive(Clone, Copy)]
+#[derive(Clone, Copy, PartialEq, Eq, Debug, Default)]
 pub enum LevelPosting {
+    #[default]
     Look,
     Set(i32),
 }
@@ -26,7 +27,7 @@ impl fmt::Display for LevelPosting {
 }
 
 /// The kind of cell that holds a level.
-#[derive(Clone, Copy)]
+#[derive(Clone, Copy, PartialEq, Eq, Debug)]
 pub struct Level;
 
 impl Kind for Level {

@@ -8,8 +8,9 @@ use crate::answers::Answer;
 use crate::kinds::Kind;
 use std::fmt;
 
-#[derive(Clone, Copy)]
+#[derive(Clone, Copy, PartialEq, Eq, Debug, Default)]
 pub enum MarkPosting {
+    #[default]
     Look,
     Raise(i32),
 }
@@ -26,7 +27,7 @@ impl fmt::Display for MarkPosting {
 }
 
 /// The kind of cell that holds a mark.
-#[derive(Clone, Copy)]
+#[derive(Clone, Copy, PartialEq, Eq, Debug)]
 pub struct Mark;
 
 impl Kind for Mark {

@@ -1,5 +1,5 @@
 // Postings made one after another on a cell of any kind.
-ghost use Rattle.std.specs.Prelude.{◌≡◌, true, Decides};
+ghost use Rattle.std.specs.Prelude.{◌≡◌, ◌↔◌, IsTrue};
 ghost use Rattle.cells.specs.Sequences.{CrossesEach, StandsAnywhere, answer_to, value_left};
 
 use crate::kinds::Kind;
@@ -9,7 +9,8 @@ use crate::kinds::Kind;
 pub fn post<K: Kind>(kind: &K, value: &mut K::Value, posting: K::Posting) -> Option<K::Answer>
     ensures answer { result ≡ answer_to (K.rules kind.now) value.old posting }
     ensures stored { value.new ≡ value_left (K.rules kind.now) value.old posting }
-    ensures lawful { (K.rules kind.now).value_lawful value.old ≡ true → (K.rules kind.now).value_lawful value.new ≡ true }
+    ensures lawful { IsTrue ((K.rules kind.now).value_lawful value.old)
+        → IsTrue ((K.rules kind.now).value_lawful value.new) }
 {
     if !kind.is_lawful_posting(posting) {
         return None;
@@ -22,8 +23,8 @@ pub fn post<K: Kind>(kind: &K, value: &mut K::Value, posting: K::Posting) -> Opt
 /// Does the posting cross each of the others? Where it does, its place among them makes no
 /// difference, to its own answer, to theirs, or to the value that all of them leave.
 pub fn crosses_each<K: Kind>(kind: &K, posting: K::Posting, others: &[K::Posting]) -> bool
-    ensures each { Decides result (CrossesEach (K.rules kind.now) posting others.now) }
-    ensures anywhere { result ≡ true → StandsAnywhere (K.rules kind.now) posting others.now }
+    ensures each { IsTrue result ↔ CrossesEach (K.rules kind.now) posting others.now }
+    ensures anywhere { IsTrue result → StandsAnywhere (K.rules kind.now) posting others.now }
 {
     for other in others {
         if !kind.crosses(posting, *other) {

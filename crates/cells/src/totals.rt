@@ -12,8 +12,9 @@ use std::fmt;
 const TURNOVER: i32 = 1_000_000_000;
 
 /// An addition may name any number that a script can write; whether it is lawful is asked of it.
-#[derive(Clone, Copy)]
+#[derive(Clone, Copy, PartialEq, Eq, Debug, Default)]
 pub enum TotalPosting {
+    #[default]
     Look,
     Add(i32),
 }
@@ -30,7 +31,7 @@ impl fmt::Display for TotalPosting {
 }
 
 /// The kind of cell that holds a total.
-#[derive(Clone, Copy)]
+#[derive(Clone, Copy, PartialEq, Eq, Debug)]
 pub struct Total;
 
 impl Kind for Total {
@@ -45,13 +46,13 @@ impl Kind for Total {
     ghost crossing = { Prim.search Common.rules };
 
     fn is_lawful_value(&self, value: i32) -> bool {
-        0 <= value && value < TURNOVER
+        (0..TURNOVER).contains(&value)
     }
 
     fn is_lawful_posting(&self, posting: TotalPosting) -> bool {
         match posting {
             TotalPosting::Look => true,
-            TotalPosting::Add(litres) => 0 <= litres && litres < TURNOVER,
+            TotalPosting::Add(litres) => (0..TURNOVER).contains(&litres),
         }
     }
 

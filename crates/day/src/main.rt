@@ -13,6 +13,7 @@ use cells::marks::{Mark, MarkPosting};
 use cells::sequences::{crosses_each, post};
 use cells::totals::{Total, TotalPosting};
 use readings::Reading;
+use rules::refusals::Refusal;
 use std::{fmt, io};
 
 /// Posts the readings in turn and prints each with its answer. One that is not lawful is left out,
@@ -29,11 +30,10 @@ where
     ensures { OnOk result (value.new ≡ closing (K.rules kind.now) value.old readings.now) }
 {
     for reading in readings {
-        let source = reading.source;
-        let posting = reading.posting;
+        let Reading { source, posting } = *reading;
         match post(kind, value, posting) {
             Some(answer) => println!(rt; "  {source} {posting} {answer}")?,
-            None => println!(rt; "  {source} {posting} (turned 5 0)")?,
+            None => println!(rt; "  {source} {posting} {}", Refusal::UnlawfulPosting)?,
         }
     }
     Ok(())

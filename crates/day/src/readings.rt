@@ -5,7 +5,7 @@ use cells::totals::TotalPosting;
 use std::fmt;
 
 /// What a reading was taken with.
-#[derive(Clone, Copy)]
+#[derive(Clone, Copy, PartialEq, Eq, Debug)]
 pub enum Source {
     Sensor,
     Tape,
@@ -21,7 +21,7 @@ impl fmt::Display for Source {
 }
 
 /// One reading: what it was taken with, and what it posts.
-#[derive(Clone, Copy)]
+#[derive(Clone, Copy, PartialEq, Eq, Debug)]
 pub struct Reading<P> {
     pub source: Source,
     pub posting: P,

@@ -50,25 +50,37 @@ module _ {P : Type 0} where
   earliest_holder test (l ∷ ls) = cond (test l) (Some l.holder) (earliest_holder test ls)
 
 module _ {V P O : Type 0} (R : Rules V P O) where
-  -- the seen value: the committed value of the cell, changed in posting order by the lines on it that the entry or an elder holds
+  -- what a value becomes by the lines on a cell that the entry or an elder holds, in posting order
+  abbrev pub changed_by_own : List Row → ℕ → ℕ → V → List (Line P) → V
+  changed_by_own rows e c v ls = after_all R v (map (λ l. l.posting) (filter (λ l. (l.cell == c) && is_own_or_elder rows e l.holder) ls))
+
+  -- the seen value: the committed value of the cell, changed so
   abbrev pub seen : State V P → ℕ → ℕ → Option V
-  seen s e c =
-      of_value (λ v. after_all R v (map (λ l. l.posting) (filter (λ l. (l.cell == c) && is_own_or_elder s.rows e l.holder) s.lines)))
-      (value_at s.values c)
+  seen s e c = of_value (λ v. changed_by_own s.rows e c v s.lines) (value_at s.values c)
 
   -- lines change the values in their order
   abbrev pub commit : List V → List (Line P) → List V
   commit = fold (λ vs l. store R vs l.cell l.posting)
 
   -- question 6 of one line: is it in the way of e's posting on c, held neither by e nor by an elder, and not crossed?
+  abbrev pub stops_posting_in : List Row → ℕ → ℕ → P → Line P → Bool
+  stops_posting_in rows e c p l = l.cell == c && (not (is_own_or_elder rows e l.holder) && not (R.crosses p l.posting))
+
+  -- .. among the entries that stand
   abbrev pub stops_posting : State V P → ℕ → ℕ → P → Line P → Bool
-  stops_posting s e c p l = l.cell == c && (not (is_own_or_elder s.rows e l.holder) && not (R.crosses p l.posting))
+  stops_posting s e c p l = stops_posting_in s.rows e c p l
+
+  -- does e hold a line on the cell of m that does not cross m?
+  abbrev pub holds_uncrossed : List (Line P) → ℕ → Line P → Bool
+  holds_uncrossed ls e m = some_line (λ l. (l.holder == e) && (l.cell == m.cell && not (R.crosses l.posting m.posting))) ls
 
   -- question 7 of one line: does an elder of e hold it, and some line of e on the same cell not cross it?
+  abbrev pub stops_publishing_in : List Row → List (Line P) → ℕ → Line P → Bool
+  stops_publishing_in rows ls e m = is_among (elders rows e) m.holder && holds_uncrossed ls e m
+
+  -- .. among the entries and the lines that stand
   abbrev pub stops_publishing : State V P → ℕ → Line P → Bool
-  stops_publishing s e m =
-      is_among (elders s.rows e) m.holder
-      && some_line (λ l. (l.holder == e) && (l.cell == m.cell && not (R.crosses l.posting m.posting))) s.lines
+  stops_publishing s e m = stops_publishing_in s.rows s.lines e m
 
 -- ---- questions
 

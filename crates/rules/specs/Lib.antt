@@ -1,4 +1,5 @@
 pub mod Refusals
+pub mod Shown
 pub mod Entries
 pub mod Cells
 pub mod States

@@ -1,6 +1,9 @@
 // Why a call is turned away.
-ghost use Rattle.std.specs.Prelude.{◌≡◌};
+ghost use Rattle.std.specs.Prelude.{◌≡◌, Some};
 ghost use Rattle.rules.specs.Refusals.{holder_of, number_of};
+ghost use Rattle.rules.specs.Shown.{refusal_text};
+
+use std::fmt;
 
 /// The first question that a call failed. At 6 and 7 it carries the holder of the earliest line for
 /// which the question fails.
@@ -56,5 +59,13 @@ impl Refusal {
             Refusal::HeldByElder { holder } => holder,
             _ => 0,
         }
+    }
+}
+
+impl fmt::Display for Refusal {
+    ghost output = { λ refusal. Some (refusal_text refusal) };
+
+    fn fmt<W: fmt::Write>(&self, f: &mut fmt::Formatter<W>) -> fmt::Result {
+        write!(f, "(turned {} {})", self.number(), self.holder())
     }
 }

@@ -1,7 +1,7 @@
 // A row of the register: one standing entry.
 
 /// An entry (a transaction) that stands, and the entry it was begun under.
-#[derive(Clone, Copy, PartialEq, Eq)]
+#[derive(Clone, Copy, PartialEq, Eq, Debug, Default)]
 pub struct Row {
     /// From 1 to 65,535, in the order in which entries are begun; no number returns.
     pub entry: u16,

@@ -29,8 +29,7 @@ fn the_innermost_sees_the_outermost_and_its_lines_pass_all_the_way_up(rt: HostRu
     );
     assert_eq!(rt; register.begin(&Level, 0), Ok(256));
     assert_eq!(rt; register.begin(&Level, 255), Err(Refusal::NoFreeRow));
-    for inside in 0..254 {
-        let holder = 255 - inside;
+    for holder in (2..=255).rev() {
         assert_eq!(rt;
             register.post(&Level, 256, 1, LevelPosting::Look),
             Err(Refusal::InTheWay { holder })
