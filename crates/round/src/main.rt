@@ -6,37 +6,19 @@ mod rounds;
 mod steps;
 mod texts;
 
-use cells::levels::{Level, LevelPosting};
-use cells::totals::{Total, TotalPosting};
+use cells::levels::Level;
+use cells::totals::Total;
 use register::Register;
 use rounds::perform_steps;
 use rules::lines::Line;
 use rules::rows::Row;
 use std::io;
 
-// What the tables hold at first is of no account: setting up frees every row and line.
-const FREE_ROW: Row = Row {
-    entry: 0,
-    parent: 0,
-};
-
-const FREE_LEVEL_LINE: Line<LevelPosting> = Line {
-    holder: 0,
-    cell: 0,
-    posting: LevelPosting::Look,
-};
-
-const FREE_TOTAL_LINE: Line<TotalPosting> = Line {
-    holder: 0,
-    cell: 0,
-    posting: TotalPosting::Look,
-};
-
 /// The levels of both galleries, read by two rounds at once.
 fn run_levels(rt: &HostRuntime) -> io::Result<()> {
     let mut values = [1110, 1220, 2330, 2440];
-    let mut rows = [FREE_ROW; 8];
-    let mut lines = [FREE_LEVEL_LINE; 16];
+    let mut rows = [Row::default(); 8];
+    let mut lines = [Line::default(); 16];
     let mut register = Register::set_up(&Level, &mut values, &mut rows, &mut lines);
     println!(rt; "levels in mm: both rounds begin")?;
     perform_steps(rt, &Level, &mut register, &steps::BOTH_BEGIN)?;
@@ -55,8 +37,8 @@ fn run_levels(rt: &HostRuntime) -> io::Result<()> {
 /// The seepage over one weir, to which two rounds add at once.
 fn run_seepage(rt: &HostRuntime) -> io::Result<()> {
     let mut values = [700_000];
-    let mut rows = [FREE_ROW; 8];
-    let mut lines = [FREE_TOTAL_LINE; 16];
+    let mut rows = [Row::default(); 8];
+    let mut lines = [Line::default(); 16];
     let mut register = Register::set_up(&Total, &mut values, &mut rows, &mut lines);
     println!(rt; "seepage in litres: two add at once")?;
     perform_steps(rt, &Total, &mut register, &steps::SEEPAGE)?;

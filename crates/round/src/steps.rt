@@ -5,7 +5,7 @@ use rules::calls::Call;
 use std::fmt;
 
 /// Who makes a call.
-#[derive(Clone, Copy)]
+#[derive(Clone, Copy, PartialEq, Eq, Debug)]
 pub enum Reader {
     /// The logger of the sensors, on its round.
     Sensor,
@@ -26,7 +26,7 @@ impl fmt::Display for Reader {
 }
 
 /// One step: a call, and who makes it.
-#[derive(Clone, Copy)]
+#[derive(Clone, Copy, PartialEq, Eq, Debug)]
 pub struct Step<P> {
     pub reader: Reader,
     pub call: Call<P>,

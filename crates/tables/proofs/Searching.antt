@@ -8,7 +8,7 @@ use Rattle.cells.specs.Kinds.{Rules}
 use Rattle.rules.specs.declared.lines.Line.{Line}
 use Rattle.rules.specs.declared.rows.Row.{Row}
 use Rattle.rules.specs.Calls.{earliest_holder}
-use Rattle.tables.specs.Searches.{changed_by_own, stops_posting_in}
+use Rattle.rules.specs.Calls.{changed_by_own, stops_posting_in}
 
 -- ---- the earliest line that passes a test, by its place
 module _ {P : Type 0} (test : Line P → Bool) where

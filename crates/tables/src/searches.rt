@@ -1,7 +1,7 @@
 // The way through the standing lines, first posted to last posted.
 ghost use Rattle.std.specs.Prelude.{◌≡◌};
-ghost use Rattle.rules.specs.Calls.{earliest_holder};
-ghost use Rattle.tables.specs.Searches.{changed_by_own, holds_uncrossed, met, stops_posting_in, stops_publishing_in};
+ghost use Rattle.rules.specs.Calls.{changed_by_own, earliest_holder, holds_uncrossed, stops_posting_in, stops_publishing_in};
+ghost use Rattle.tables.specs.Searches.{met};
 
 use crate::elders::Entries;
 use cells::kinds::Kind;

@@ -2,7 +2,7 @@ use Rattle.std.proofs.Common.{sym, ◌∙◌, rules}
 use Rattle.std.proofs.lemmas.Iterator.{YieldsList-from_slice}
 use Rattle.std.proofs.lemmas.Iterator.Search.{position_from_yields_List}
 use borrow.Author.Tests.{tests}
-use Rattle.tables.specs.Searches.{stops_publishing_in}
+use Rattle.rules.specs.Calls.{stops_publishing_in}
 use Rattle.tables.proofs.Searching.{at_place, at_no_place}
 use Rattle.tables.proofs.searches.Search.elder_in_the_way.Goals as goal
 
