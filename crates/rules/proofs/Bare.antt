@@ -8,13 +8,12 @@ use Rattle.rules.specs.Calls.{holder_after, pass_on, some_line, earliest_holder}
 use Rattle.rules.specs.Books.{Copied}
 use Rattle.rules.proofs.Holdings.{Held, renamed}
 use Rattle.rules.proofs.Standing.{left_of}
-use Rattle.rules.proofs.Options.{some_not_none}
 use Rattle.rules.proofs.Stores.{bare}
 
 -- ---- no line passes a test
 
 none_cond : (b : Bool) (h : ℕ) (o : Option ℕ) → cond b (Some h) o ≡ None → (b ≡ false) × (o ≡ None)
-none_cond true h o e = absurd (some_not_none h e)
+none_cond true h o e = cc
 none_cond false h o e = (refl, e)
 
 module _ {P : Type 0} (test : Line P → Bool) where

@@ -1,18 +1,6 @@
--- Facts about tests that the shelf has in other forms: a test by what it excludes, and one that is made of two others.
-use Rattle.std.proofs.Common.{◌≡◌, Bool, true, false, not, ◌&&◌, ◌⊎◌, refl, inl, inr}
-use mathlib.Core.Bool.{false≢true}
-
-pub not_by : (b : Bool) → (b ≡ true → ⊥) → not b ≡ true
-not_by true f = absurd (f refl)
-not_by false f = refl
-
-pub not_so : (b : Bool) → not b ≡ true → b ≡ true → ⊥
-not_so true h k = false≢true h
-not_so false h k = false≢true k
-
-pub false_by : (b : Bool) → (b ≡ true → ⊥) → b ≡ false
-false_by true f = absurd (f refl)
-false_by false f = refl
+-- Facts about tests that the shelf has in other forms: a test that another implies, and one that is made of two others.
+use Rattle.std.proofs.Common.{◌≡◌, Bool, true, false, ◌&&◌, ◌⊎◌, refl, inl, inr}
+pub use Rattle.std.proofs.lemmas.Bool.{false_from_ne_true as false_by}
 
 -- a test that another implies
 pub and_implied : (k b : Bool) → (b ≡ true → k ≡ true) → (k && b) ≡ b
@@ -30,7 +18,7 @@ pub parts_by : (t a b : Bool) → (t ≡ true → (a ≡ true) ⊎ (b ≡ true))
 parts_by true true true f p q d = absurd (d refl refl)
 parts_by true true false f p q d = first
 parts_by true false true f p q d = second
-parts_by true false false f p q d = elim (f refl) [ inl h ↦ absurd (false≢true h) | inr h ↦ absurd (false≢true h) ]
-parts_by false true b f p q d = absurd (false≢true (p refl))
-parts_by false false true f p q d = absurd (false≢true (q refl))
+parts_by true false false f p q d = elim (f refl) [ inl h ↦ cc | inr h ↦ cc ]
+parts_by false true b f p q d = cc (p refl)
+parts_by false false true f p q d = cc (q refl)
 parts_by false false false f p q d = neither

@@ -2,10 +2,11 @@
 use Rattle.std.proofs.Common.{◌≡◌, ℕ, ◌<◌, true, List, ◌++◌, fold, sym, ap, ◌∙◌, subst, inl, inr, arith}
 use Rattle.std.specs.List.{AllByRecursion as All}
 use Rattle.std.proofs.lemmas.Bool.{eqb-true, eq-eqb}
+use Rattle.std.proofs.lemmas.Grind.{fold-append}
 use Rattle.rules.specs.declared.rows.Row.{Row}
 use Rattle.rules.specs.Entries.{stands, childless, elders, is_among, is_own_or_elder}
 use Rattle.rules.specs.FairCopy.{EachInTurn}
-use Rattle.rules.proofs.Exchanges.{Same, Laws, same_sym, same_end, same_rightly, right_front, right_append, folded_append, stays_ok, past_all}
+use Rattle.rules.proofs.Exchanges.{Same, Laws, same_sym, same_end, same_rightly, right_front, right_append, stays_ok, past_all}
 use Rattle.rules.proofs.Bools.{parts_by}
 use Rattle.rules.proofs.Pairs.{Pairs, pairs_weaker, pairs_and, pairs_from}
 use Rattle.rules.proofs.Holdings.{Held, held, split, cross_held, CrossesBoth}
@@ -86,5 +87,5 @@ module _ {V X : Type 0} {after : V → X → V} {Right : V → X → Type 0} {Ok
           (past_all laws own_lines (held (is_own_or_elder rows f) table) value core.value_ok own_ok (held_ok core.frame (is_own_or_elder rows f)) (crosses_seen f (other_not e f so.1)) (core.sees f so.0)));
       copied = λ f s. (let so = stood (others e) rows f s in subst (Same Cross (copies f)) (sym (own_rest core.frame (others e) f so.1)) (core.copied f so.0));
       fair_right = right_append laws first fair (copies e) core.fair_right (subst (λ v. EachInTurn after Right v (copies e)) (sym core.fair_value) (same_rightly laws copy_is value core.value_ok own_ok own_right));
-      fair_value = folded_append after first fair (copies e) ∙ ap (λ v. fold after v (copies e)) core.fair_value ∙ sym (same_end laws copy_is value core.value_ok own_ok);
+      fair_value = fold-append after first fair (copies e) ∙ ap (λ v. fold after v (copies e)) core.fair_value ∙ sym (same_end laws copy_is value core.value_ok own_ok);
     }

@@ -1,10 +1,9 @@
 -- Who is whose elder, by what is looked up of the standing entries: the order of their rows makes no difference.
 use Rattle.std.proofs.Common.{◌≡◌, ℕ, zero, suc, ◌<◌, ◌≤◌, Bool, true, false, cond, not, eqb, ◌⊎◌, List, [], ◌∷◌, ◌++◌, Decides, filter, sym, refl, ap, ◌∙◌, subst, inl, inr, arith}
 use mathlib.Core.Bool.{false≢true}
-use Rattle.std.proofs.lemmas.Bool.{eqb-true, eqb-false, eq-eqb, ne_eqb, or_cases, or_left, or_right, cases_Bool, cases_eq, and_parts, not-true}
+use Rattle.std.proofs.lemmas.Bool.{eqb-true, eqb-false, eq-eqb, ne_eqb, or_cases, or_left, or_right, cases_Bool, cases_eq, and_parts, not-true, not_from_false, false_from_ne_true, both_ways}
 use Rattle.rules.specs.declared.rows.Row.{Row}
 use Rattle.rules.specs.Entries.{stands, childless, parent_of, Elder, its_parent, of_its_parent, up_from, elders, is_among, is_own_or_elder}
-use Rattle.rules.proofs.Bools.{not_by, not_so}
 use Rattle.rules.proofs.Numbers.{among_self, among_more, among_cases, all_from_among, Falls}
 
 -- ---- look-ups in rows
@@ -264,10 +263,10 @@ abbrev pub others : ℕ → ℕ → Bool
 others e x = not (eqb x e)
 
 pub not_other : (e x : ℕ) → (x ≡ e → ⊥) → others e x ≡ true
-not_other e x d = not_by (eqb x e) (λ h. d (eqb-true x e h))
+not_other e x d = not_from_false (eqb x e) (ne_eqb x e d)
 
 pub other_not : (e x : ℕ) → others e x ≡ true → x ≡ e → ⊥
-other_not e x o i = not_so (eqb x e) o (eq-eqb x e i)
+other_not e x o = eqb-false x e (not-true (eqb x e) o)
 
 -- who is neither e nor inside it
 abbrev pub is_outside : List Row → ℕ → ℕ → Bool
@@ -280,7 +279,7 @@ module _ (rows : List Row) (g : Grown rows) (e : ℕ) where
 
   -- .. and where one ends with all that are inside it
   pub closed_outside : Closed (is_outside rows e) rows
-  closed_outside f x k m = not_by (is_own_or_elder rows x e) (λ h. not_so (is_own_or_elder rows f e) k (kin_trans rows g f x e m h))
+  closed_outside f x k m = not_from_false _ (false_from_ne_true _ (λ h. both_ways _ (not-true _ k) (kin_trans rows g f x e m h)))
 
 -- ---- a new entry stands under q
 

@@ -12,7 +12,8 @@ use Rattle.rules.specs.States.{State, set_up, size_within, all_lawful, sound_for
 use Rattle.rules.specs.Calls.{Answer, seen, ask, first_no, further_questions, turned_away, taken, unless_refused, step}
 use Rattle.rules.specs.Books.{Copy, then_block, lines_of, Book, new_book, rows_of, begun_number, posting_answer, is_done, if_any, with_begun, with_line, with_fair_block, with_block, with_abandoned, write}
 use Rattle.rules.specs.FairCopy.{Event, book_of, Leads, post_line, GetTheirAnswers, values_after, last_named_first, lines_so_far, Block, block_if, added_by, blocks_added, FairCopyHolds, FairCopyLaw}
-use Rattle.rules.proofs.Exchanges.{folded_append, right_append}
+use Rattle.rules.proofs.Exchanges.{right_append}
+use Rattle.std.proofs.lemmas.Grind.{fold-append}
 use Rattle.rules.proofs.Kinship.{Grown, elders_are}
 use Rattle.rules.proofs.Descending.{so_far_right, so_far_end}
 use Rattle.rules.proofs.Stores.{laws}
@@ -90,7 +91,7 @@ module _ {V P O : Type 0} (R : Rules V P O) (law : CrossingLaw R) (first : List 
       let c = write b x.call x.answer in
       fair_blocks history u t c (upheld_by R law first s b up x leads.0) leads.1
       ∙ ap (λ copy. with_blocks copy (blocks_added R u c history)) (one_more s b up.rows_are x.call x.answer)
-      ∙ sym (folded_append (λ copy block. then_block copy block.entry block.copy) b.fair (added_by s b x.call x.answer) (blocks_added R u c history))
+      ∙ sym (fold-append (λ copy block. then_block copy block.entry block.copy) b.fair (added_by s b x.call x.answer) (blocks_added R u c history))
 
 -- ---- set-up
 
@@ -136,7 +137,7 @@ module _ {V P O : Type 0} (R : Rules V P O) (law : CrossingLaw R) (first : List 
   standing_sees : (c : ℕ) → value_at (values_after R first (lines_of b.fair ++ lines_so_far b e)) c ≡ seen R s e c
   standing_sees c =
       ap (λ vs. value_at vs c)
-      (folded_append (post_line R) first (lines_of b.fair) (lines_so_far b e)
+      (fold-append (post_line R) first (lines_of b.fair) (lines_so_far b e)
       ∙ ap (λ vs. values_after R vs (lines_so_far b e)) up.core.fair_value
       ∙ ap (values_after R s.values) (sym so_far)
       ∙ so_far_end (laws R law) up.core e st)

@@ -21,11 +21,7 @@ use Rattle.rules.proofs.Steps.{upheld_by}
 -- a call that is turned away adds no block
 pub unadded : {V P O : Type 0} (s : State V P) (b : Book P O) (call : Call P) (refusal : Refusal) → added_by {V = V} s b call (Err refusal) ≡ []
 unadded s b (Begin q) r = refl
-unadded s b (Post e c p) r = refl
-unadded s b (Keep e) r = refl
-unadded s b (Publish e) r = refl
-unadded s b (Abandon e) r = refl
-unadded s b (Value c) r = refl
+unadded s b call r = refl
 
 -- blocks of entries of which Q does not hold differ from blocks of entries of which it does
 differ_append : {P O : Type 0} (Q : ℕ → Type 0) (xs ys : List (Block P O)) → AllDiffer xs → AllDiffer ys → All (λ x. Q x.entry → ⊥) xs → All (λ y. Q y.entry) ys → AllDiffer (xs ++ ys)

@@ -1,14 +1,14 @@
 -- An inner keep: an entry's lines stay in their places and pass to its parent, and it ends.
 use Rattle.std.proofs.Common.{◌≡◌, ℕ, Bool, true, false, cond, not, ◌&&◌, eqb, ◌⊎◌, List, ◌∷◌, ◌++◌, fold, sym, refl, ap, ◌∙◌, subst, inl, inr, append_assoc}
 use Rattle.std.specs.List.{AllByRecursion as All}
-use Rattle.std.proofs.lemmas.Bool.{eqb-true, eq-eqb, ne_eqb, cases_Bool, cases_eq, and_parts, and_from, not_from_false}
+use Rattle.std.proofs.lemmas.Bool.{eqb-true, eq-eqb, ne_eqb, cases_Bool, cases_eq, and_parts, and_from, not-true, not_from_false, both_ways, false_from_ne_true}
 use Rattle.std.proofs.ByRecursion.{All-weaker, All-map}
 use Rattle.rules.specs.declared.rows.Row.{Row}
 use Rattle.rules.specs.Entries.{stands, childless, elders, is_among, is_own_or_elder}
 use Rattle.rules.specs.Calls.{holder_after}
 use Rattle.rules.specs.FairCopy.{EachInTurn}
 use Rattle.rules.proofs.Exchanges.{Same, Laws, same_trans, same_sym, same_left, same_right, same_all, same_rightly, right_front, right_back, right_append, stays_ok, past_all}
-use Rattle.rules.proofs.Bools.{parts_by, not_so, false_by}
+use Rattle.rules.proofs.Bools.{parts_by}
 use Rattle.rules.proofs.Pairs.{Pairs, pairs_weaker, pairs_map}
 use Rattle.rules.proofs.Holdings.{Held, held, renamed, held_agree, held_renamed, split, cross_held, CrossesBoth}
 use Rattle.rules.proofs.Numbers.{among_cases, among_more}
@@ -98,7 +98,7 @@ module _ {V X : Type 0} {after : V → X → V} {Right : V → X → Type 0} {Ok
           (held_agree (is_own_or_elder rows f) sight table
           (All-weaker (λ g. OkItem g.item) (λ g. is_own_or_elder rows f g.holder ≡ sight g.holder)
           (λ g o. elim (cases_eq g.holder e) [
-            | inl i ↦ ap (is_own_or_elder rows f) i ∙ false_by (is_own_or_elder rows f e) (not_among f d) ∙ sym a ∙ ap (is_own_or_elder rows f) (sym (after_own e q g.holder i))
+            | inl i ↦ ap (is_own_or_elder rows f) i ∙ false_from_ne_true _ (not_among f d) ∙ sym a ∙ ap (is_own_or_elder rows f) (sym (after_own e q g.holder i))
             | inr n ↦ ap (is_own_or_elder rows f) (sym (after_other e q g.holder n))
           ]) table core.frame.items_ok))
           (core.sees f sf)
@@ -121,7 +121,7 @@ module _ {V X : Type 0} {after : V → X → V} {Right : V → X → Type 0} {Ok
         lower_in h l = (and_parts (is_own_or_elder rows f h) (not (is_own_or_elder rows q h)) l).0
 
         lower_out : (h : ℕ) → lower h ≡ true → is_own_or_elder rows q h ≡ true → ⊥
-        lower_out h l = not_so (is_own_or_elder rows q h) (and_parts (is_own_or_elder rows f h) (not (is_own_or_elder rows q h)) l).1
+        lower_out h l = both_ways _ (not-true _ (and_parts (is_own_or_elder rows f h) (not (is_own_or_elder rows q h)) l).1)
 
         -- they are neither e's nor its elders'
         lower_apart : (h : ℕ) → lower h ≡ true → is_own_or_elder rows e h ≡ true → ⊥

@@ -1,13 +1,12 @@
 -- A post: one line more, after all others.
 use Rattle.std.proofs.Common.{◌≡◌, ℕ, Bool, true, false, cond, eqb, ◌⊎◌, List, [], ◌∷◌, ◌++◌, fold, sym, refl, ap, ◌∙◌, subst, inl, inr, append-nil}
 use Rattle.std.specs.List.{AllByRecursion as All}
-use Rattle.std.proofs.lemmas.Bool.{eq-eqb, ne_eqb, cases_eq}
+use Rattle.std.proofs.lemmas.Bool.{eq-eqb, ne_eqb, cases_eq, false_from_ne_true}
 use Rattle.std.proofs.ByRecursion.{All-push}
 use Rattle.rules.specs.declared.rows.Row.{Row}
 use Rattle.rules.specs.Entries.{stands, childless, is_own_or_elder}
 use Rattle.rules.specs.FairCopy.{EachInTurn}
 use Rattle.rules.proofs.Exchanges.{Same, Laws, same_right, right_append}
-use Rattle.rules.proofs.Bools.{false_by}
 use Rattle.rules.proofs.Pairs.{pairs_push}
 use Rattle.rules.proofs.Holdings.{Held, held, held_push}
 use Rattle.rules.proofs.Kinship.{kin_self, kin_childless}
@@ -29,7 +28,7 @@ module _ {V X : Type 0} {after : V → X → V} {Right : V → X → Type 0} {Ok
     pushed t b h = held_push t table (record { holder = e; item = x }) ∙ ap (λ c. held t table ++ cond c (x ∷ []) []) h
 
     not_seen_by : (f : ℕ) → (e ≡ f → ⊥) → is_own_or_elder rows f e ≡ false
-    not_seen_by f d = false_by (is_own_or_elder rows f e) (λ h. d (sym (kin_childless rows core.frame.grown e f ch h)))
+    not_seen_by f d = false_from_ne_true (is_own_or_elder rows f e) (λ h. d (sym (kin_childless rows core.frame.grown e f ch h)))
 
     pub posted : Core after Right OkValue OkItem Cross first rows posted_table posted_copies value fair
     posted = record {

@@ -1,7 +1,6 @@
 -- What every refusal says: each question asks what it means, and so the first no is the first question that the call fails.
-use Rattle.std.proofs.Common.{◌≡◌, ℕ, ◌<◌, ◌≤◌, Bool, true, false, not, ◌&&◌, ◌||◌, eqb, ltb, List, [], ◌∷◌, length, Some, Ok, Err, Decides, Option, sym, refl, ap, ◌∙◌, inl, inr, arith}
-use mathlib.Core.Bool.{false≢true}
-use Rattle.std.proofs.lemmas.Bool.{eqb-true, eqb-false, eq-eqb, ne_eqb, ltb-false, le-ltb, and_parts, and_from, or_cases, or_parts, or_from, or_left, or_right, not-true}
+use Rattle.std.proofs.Common.{◌≡◌, ℕ, ◌<◌, ◌≤◌, Bool, true, not, ◌&&◌, ◌||◌, eqb, ltb, List, [], ◌∷◌, length, Some, Ok, Err, Decides, Option, refl, ap, inl, inr, arith}
+use Rattle.std.proofs.lemmas.Bool.{both_ways, false_from_ne_true, not_from_false, eqb-true, eqb-false, eq-eqb, ne_eqb, ltb-false, le-ltb, and_parts, and_from, or_parts, or_from, not-true}
 use Rattle.cells.specs.Kinds.{Rules, CrossingLaw}
 use Rattle.rules.specs.declared.lines.Line.{Line}
 use Rattle.rules.specs.declared.calls.Call.{Call}
@@ -14,9 +13,8 @@ use Rattle.rules.specs.Entries.{stands, childless, Elder, elders, is_among, is_o
 use Rattle.rules.specs.States.{State}
 use Rattle.rules.specs.Calls.{some_line, earliest_holder, stops_posting, stops_publishing, ask, ask_holder, first_no, questions, taken, step}
 use Rattle.rules.specs.TurnedAway.{Earliest, StopsPosting, StopsPublishing, Fails, AnswersRightly, RefusalLaw}
-use Rattle.rules.proofs.Bools.{not_by}
 use Rattle.rules.proofs.FirstNo.{TellEach, ask_tells, holder_tells, first_says, rise, IsSaid, first_least, none_said}
-use Rattle.rules.proofs.Outcomes.{refused_by, taken_by, taken_leaves, taken_fails, leaves_by}
+use Rattle.rules.proofs.Outcomes.{refused_by, taken_by, effect_refused, leaves_by}
 use Rattle.rules.proofs.EarliestLines.{some_among, among_some, earliest_is, earliest_found}
 use Rattle.rules.proofs.Law.{fair_copy_law}
 
@@ -34,21 +32,18 @@ module _ {V P O : Type 0} (R : Rules V P O) (s : State V P) (elders_are : (e x :
         λ h. (
             let hs = and_parts (eqb l.cell c) (not ours && not crossed) h in
             let ks = and_parts (not ours) (not crossed) hs.1 in
-            let apart : ours ≡ false = not-true ours ks.0 in
+            let apart = or_parts (eqb l.holder e) (is_among (elders s.rows e) l.holder) (not-true ours ks.0) in
             record {
               on_cell = eqb-true l.cell c hs.0;
-              not_own = λ i. false≢true (sym apart ∙ or_left (eqb l.holder e) (is_among (elders s.rows e) l.holder) (eq-eqb l.holder e i));
-              not_elders = λ k. false≢true (sym apart ∙ or_right (eqb l.holder e) (is_among (elders s.rows e) l.holder) ((elders_are e l.holder).1 k));
+              not_own = eqb-false l.holder e apart.0;
+              not_elders = λ k. both_ways _ apart.1 ((elders_are e l.holder).1 k);
               not_crossed = not-true crossed ks.1;
             }
             ),
         λ w. and_from (eqb l.cell c) (not ours && not crossed) (eq-eqb l.cell c w.on_cell)
             (and_from (not ours) (not crossed)
-            (not_by ours (λ o. elim (or_cases (eqb l.holder e) (is_among (elders s.rows e) l.holder) o) [
-              | inl i ↦ w.not_own (eqb-true l.holder e i)
-              | inr k ↦ w.not_elders ((elders_are e l.holder).0 k)
-            ]))
-            (not_by crossed (λ cr. false≢true (sym w.not_crossed ∙ cr)))),
+            (not_from_false ours (or_from (eqb l.holder e) (is_among (elders s.rows e) l.holder) (ne_eqb l.holder e w.not_own) (false_from_ne_true _ (λ k. w.not_elders ((elders_are e l.holder).0 k)))))
+            (not_from_false crossed w.not_crossed)),
       )
 
   stops_publishing_is : (e : ℕ) (m : Line P) → Decides (stops_publishing R s e m) (StopsPublishing R s e m)
@@ -76,7 +71,7 @@ module _ {V P O : Type 0} (R : Rules V P O) (s : State V P) (elders_are : (e x :
             (among_some clashes s.lines l w.stands_too
             (and_from (eqb l.holder e) (eqb l.cell m.cell && not (R.crosses l.posting m.posting)) (eq-eqb l.holder e w.own)
             (and_from (eqb l.cell m.cell) (not (R.crosses l.posting m.posting)) (eq-eqb l.cell m.cell w.same_cell)
-            (not_by (R.crosses l.posting m.posting) (λ cr. false≢true (sym w.not_crossed ∙ cr))))))
+            (not_from_false (R.crosses l.posting m.posting) w.not_crossed))))
             ),
       )
 
@@ -185,11 +180,7 @@ module _ {V P O : Type 0} (R : Rules V P O) (s : State V P) (elders_are : (e x :
 
   numbers_rise : (call : Call P) → rise (numbers call) ≡ true
   numbers_rise (Begin q) = refl
-  numbers_rise (Post e c p) = refl
-  numbers_rise (Keep e) = refl
-  numbers_rise (Publish e) = refl
-  numbers_rise (Abandon e) = refl
-  numbers_rise (Value c) = refl
+  numbers_rise call = refl
 
   -- a question that fails is among those that the call is asked, and says so
   fails_said : (refusal : Refusal) (call : Call P) → Fails R s refusal call → IsSaid refusal (questions R s call)
@@ -199,60 +190,23 @@ module _ {V P O : Type 0} (R : Rules V P O) (s : State V P) (elders_are : (e x :
   fails_said NotStanding (Keep e) no_to = inr (inl (ap (λ b. ask b NotStanding) no_to))
   fails_said NotStanding (Publish e) no_to = inr (inl (ap (λ b. ask b NotStanding) no_to))
   fails_said NotStanding (Abandon e) no_to = inr (inl (ap (λ b. ask b NotStanding) no_to))
-  fails_said NotStanding (Value c) no_to = absurd no_to
-  fails_said HasChild (Begin q) no_to = absurd no_to
   fails_said HasChild (Post e c p) no_to = inr (inr (inl (ap (λ b. ask b HasChild) no_to)))
   fails_said HasChild (Keep e) no_to = inr (inr (inl (ap (λ b. ask b HasChild) no_to)))
   fails_said HasChild (Publish e) no_to = inr (inr (inl (ap (λ b. ask b HasChild) no_to)))
-  fails_said HasChild (Abandon e) no_to = absurd no_to
-  fails_said HasChild (Value c) no_to = absurd no_to
-  fails_said NoSuchCell (Begin q) no_to = absurd no_to
   fails_said NoSuchCell (Post e c p) no_to = inr (inr (inr (inl (ap (λ b. ask b NoSuchCell) (le-ltb c (length s.values) no_to)))))
-  fails_said NoSuchCell (Keep e) no_to = absurd no_to
-  fails_said NoSuchCell (Publish e) no_to = absurd no_to
-  fails_said NoSuchCell (Abandon e) no_to = absurd no_to
   fails_said NoSuchCell (Value c) no_to = inr (inl (ap (λ b. ask b NoSuchCell) (le-ltb c (length s.values) no_to)))
-  fails_said UnlawfulPosting (Begin q) no_to = absurd no_to
   fails_said UnlawfulPosting (Post e c p) no_to = inr (inr (inr (inr (inl (ap (λ b. ask b UnlawfulPosting) no_to)))))
-  fails_said UnlawfulPosting (Keep e) no_to = absurd no_to
-  fails_said UnlawfulPosting (Publish e) no_to = absurd no_to
-  fails_said UnlawfulPosting (Abandon e) no_to = absurd no_to
-  fails_said UnlawfulPosting (Value c) no_to = absurd no_to
-  fails_said (InTheWay h) (Begin q) no_to = absurd no_to
   fails_said (InTheWay h) (Post e c p) no_to = inr (inr (inr (inr (inr (inl (ap (λ o. ask_holder o InTheWay) ((earliest_in_the_way e c p h).1 no_to)))))))
-  fails_said (InTheWay h) (Keep e) no_to = absurd no_to
-  fails_said (InTheWay h) (Publish e) no_to = absurd no_to
-  fails_said (InTheWay h) (Abandon e) no_to = absurd no_to
-  fails_said (InTheWay h) (Value c) no_to = absurd no_to
-  fails_said (HeldByElder h) (Begin q) no_to = absurd no_to
-  fails_said (HeldByElder h) (Post e c p) no_to = absurd no_to
-  fails_said (HeldByElder h) (Keep e) no_to = absurd no_to
   fails_said (HeldByElder h) (Publish e) no_to = inr (inr (inr (inl (ap (λ o. ask_holder o HeldByElder) ((earliest_held e h).1 no_to)))))
-  fails_said (HeldByElder h) (Abandon e) no_to = absurd no_to
-  fails_said (HeldByElder h) (Value c) no_to = absurd no_to
   fails_said NoFreeRow (Begin q) no_to = inr (inr (inl (ap (λ b. ask b NoFreeRow) (le-ltb (length s.rows) s.row_room no_to))))
-  fails_said NoFreeRow (Post e c p) no_to = absurd no_to
-  fails_said NoFreeRow (Keep e) no_to = absurd no_to
-  fails_said NoFreeRow (Publish e) no_to = absurd no_to
-  fails_said NoFreeRow (Abandon e) no_to = absurd no_to
-  fails_said NoFreeRow (Value c) no_to = absurd no_to
-  fails_said NoFreeLine (Begin q) no_to = absurd no_to
   fails_said NoFreeLine (Post e c p) no_to = inr (inr (inr (inr (inr (inr (inl (ap (λ b. ask b NoFreeLine) (le-ltb (length s.lines) s.line_room no_to))))))))
-  fails_said NoFreeLine (Keep e) no_to = absurd no_to
-  fails_said NoFreeLine (Publish e) no_to = absurd no_to
-  fails_said NoFreeLine (Abandon e) no_to = absurd no_to
-  fails_said NoFreeLine (Value c) no_to = absurd no_to
   fails_said NoNumberLeft (Begin q) no_to = inr (inr (inr (inl (ap (λ b. ask b NoNumberLeft) (le-ltb s.begun 65535 no_to)))))
-  fails_said NoNumberLeft (Post e c p) no_to = absurd no_to
-  fails_said NoNumberLeft (Keep e) no_to = absurd no_to
-  fails_said NoNumberLeft (Publish e) no_to = absurd no_to
-  fails_said NoNumberLeft (Abandon e) no_to = absurd no_to
-  fails_said NoNumberLeft (Value c) no_to = absurd no_to
+  fails_said refusal call no_to = absurd no_to
 
   says_why : (call : Call P) (refusal : Refusal) → (step R s call).answer ≡ Err refusal → Fails R s refusal call
   says_why call refusal h = elim (refused_by R s (first_no (questions R s call)) (taken R s call) refusal h) [
     | inl first ↦ first_says (λ r. Fails R s r call) (questions R s call) (numbers call) (tells call) refusal first
-    | inr effect ↦ taken_fails R s call refusal effect.1
+    | inr effect ↦ (effect_refused R s call refusal effect.1).1
   ]
 
   says_first : (call : Call P) (refusal : Refusal) → (step R s call).answer ≡ Err refusal → (other : Refusal) → number_of other < number_of refusal → Fails R s other call → ⊥
@@ -269,21 +223,14 @@ module _ {V P O : Type 0} (R : Rules V P O) (s : State V P) (elders_are : (e x :
   taken_fails_none call reply h refusal fails = none_said (questions R s call) (taken_by R s (first_no (questions R s call)) (taken R s call) reply h) refusal (fails_said refusal call fails)
 
 names_nobody : (refusal : Refusal) → (number_of refusal ≡ 6 → ⊥) → (number_of refusal ≡ 7 → ⊥) → holder_of refusal ≡ 0
-names_nobody Unsound six seven = refl
-names_nobody NotStanding six seven = refl
-names_nobody HasChild six seven = refl
-names_nobody NoSuchCell six seven = refl
-names_nobody UnlawfulPosting six seven = refl
 names_nobody (InTheWay h) six seven = absurd (six refl)
 names_nobody (HeldByElder h) six seven = absurd (seven refl)
-names_nobody NoFreeRow six seven = refl
-names_nobody NoFreeLine six seven = refl
-names_nobody NoNumberLeft six seven = refl
+names_nobody refusal six seven = refl
 
 -- where the list of elders names just the elders, every answer is right
 pub answers_rightly : {V P O : Type 0} (R : Rules V P O) (s : State V P) → ((e x : ℕ) → Decides (is_among (elders s.rows e) x) (Elder s.rows x e)) → AnswersRightly R s
 answers_rightly R s are = record {
-  leaves_all = λ call refusal h. leaves_by R s (first_no (questions R s call)) (taken R s call) refusal (taken_leaves R s call refusal) h;
+  leaves_all = λ call refusal h. leaves_by R s (first_no (questions R s call)) (taken R s call) refusal (λ e. (effect_refused R s call refusal e).0) h;
   says_why = says_why R s are;
   says_first = says_first R s are;
   taken_fails_none = taken_fails_none R s are;

@@ -1,5 +1,5 @@
 -- Lines on cells, as things that change all the values: lines on different cells cross, and lines on one cell as their kind says.
-use Rattle.std.proofs.Common.{◌≡◌, ℕ, zero, suc, Bool, true, false, cond, ◌&&◌, eqb, ◌⊎◌, List, [], ◌∷◌, map, Some, fold, filter, sym, refl, ap, ◌∙◌, subst, inl, inr}
+use Rattle.std.proofs.Common.{◌≡◌, ℕ, zero, suc, Bool, true, false, cond, ◌&&◌, eqb, ◌⊎◌, List, [], ◌∷◌, map, Some, None, Option, fold, filter, sym, refl, ap, ◌∙◌, subst, inl, inr}
 use Rattle.std.proofs.lemmas.Bool.{eqb-true, eqb-false, cases_eq, and_parts, and_from}
 use Rattle.cells.specs.Kinds.{Rules, CrossingLaw}
 use Rattle.cells.specs.Sequences.{after_all}
@@ -10,11 +10,15 @@ use Rattle.rules.specs.Calls.{commit, held_by}
 use Rattle.rules.specs.Books.{Copied}
 use Rattle.rules.specs.FairCopy.{post_line, GetsItsAnswer}
 use Rattle.rules.proofs.Exchanges.{Laws}
-use Rattle.rules.proofs.Options.{of_value_same, of_value_twice}
+use Rattle.std.proofs.lemmas.Iterator.Adapters.{option_map_id}
 use Rattle.rules.proofs.Holdings.{Held, held}
 use Rattle.rules.proofs.Standing.{own}
 
 -- ---- one cell
+
+of_value_twice : {V W Z : Type 0} (f : W → Z) (g : V → W) (o : Option V) → of_value f (of_value g o) ≡ of_value (λ v. f (g v)) o
+of_value_twice f g None = refl
+of_value_twice f g (Some v) = refl
 
 value_same : {V : Type 0} (f : V → V) (vs : List V) (c : ℕ) → value_at (change_at f vs c) c ≡ of_value f (value_at vs c)
 value_same f [] c = refl
@@ -156,5 +160,5 @@ module _ {V P O : Type 0} (R : Rules V P O) where
   seen_cond c false false g vs ls xs e f = f vs
 
   pub seen_is : (c : ℕ) (t : ℕ → Bool) (gs : List (Held (Copied P O))) (vs : List V) → value_at (fold (post_line R) vs (held t gs)) c ≡ of_value (changed (filter (on t c) (map bare gs))) (value_at vs c)
-  seen_is c t [] vs = of_value_same (value_at vs c)
+  seen_is c t [] vs = sym (option_map_id (value_at vs c))
   seen_is c t (g ∷ gs) vs = seen_cond c (eqb g.item.cell c) (t g.holder) g vs (filter (on t c) (map bare gs)) (held t gs) refl (seen_is c t gs)
