@@ -1,5 +1,5 @@
 -- What every refusal says: each question asks what it means, and so the first no is the first question that the call fails.
-use Rattle.std.proofs.Common.{◌≡◌, ℕ, ◌<◌, ◌≤◌, Bool, true, not, ◌&&◌, ◌||◌, eqb, ltb, List, [], ◌∷◌, length, Some, Ok, Err, Decides, Option, refl, ap, inl, inr, arith}
+use Rattle.std.proofs.Common.{◌≡◌, ℕ, ◌<◌, ◌≤◌, Bool, true, not, ◌&&◌, eqb, List, [], ◌∷◌, length, Ok, Err, Decides, refl, ap, inl, inr, arith}
 use Rattle.std.proofs.lemmas.Bool.{both_ways, false_from_ne_true, not_from_false, eqb-true, eqb-false, eq-eqb, ne_eqb, ltb-false, le-ltb, and_parts, and_from, or_parts, or_from, not-true}
 use Rattle.cells.specs.Kinds.{Rules, CrossingLaw}
 use Rattle.rules.specs.declared.lines.Line.{Line}
@@ -9,20 +9,16 @@ use Rattle.rules.specs.declared.calls.Reply.{Reply}
 use Rattle.rules.specs.declared.refusals.Refusal.{Refusal}
 use Rattle.rules.specs.declared.refusals.Refusal.TheVariants.{Unsound, NotStanding, HasChild, NoSuchCell, UnlawfulPosting, InTheWay, HeldByElder, NoFreeRow, NoFreeLine, NoNumberLeft}
 use Rattle.rules.specs.Refusals.{number_of, holder_of}
-use Rattle.rules.specs.Entries.{stands, childless, Elder, elders, is_among, is_own_or_elder}
+use Rattle.rules.specs.Entries.{stands, Elder, elders, is_among, is_own_or_elder}
 use Rattle.rules.specs.States.{State}
-use Rattle.rules.specs.Calls.{some_line, earliest_holder, stops_posting, stops_publishing, ask, ask_holder, first_no, questions, taken, step}
-use Rattle.rules.specs.TurnedAway.{Earliest, StopsPosting, StopsPublishing, Fails, AnswersRightly, RefusalLaw}
+use Rattle.rules.specs.Calls.{some_line, stops_posting, stops_publishing, ask, ask_holder, first_no, questions, taken, step}
+use Rattle.rules.specs.TurnedAway.{StopsPosting, StopsPublishing, Fails, AnswersRightly, RefusalLaw}
 use Rattle.rules.proofs.FirstNo.{TellEach, ask_tells, holder_tells, first_says, rise, IsSaid, first_least, none_said}
 use Rattle.rules.proofs.Outcomes.{refused_by, taken_by, effect_refused, leaves_by}
 use Rattle.rules.proofs.EarliestLines.{some_among, among_some, earliest_is, earliest_found}
 use Rattle.rules.proofs.Law.{fair_copy_law}
 
 -- ---- questions 6 and 7
-
--- an option has the value h just where Q holds
-abbrev DecidesSome : Option ℕ → ℕ → Type 0 → Type 0
-DecidesSome o h Q = (o ≡ Some h → Q) × (Q → o ≡ Some h)
 
 module _ {V P O : Type 0} (R : Rules V P O) (s : State V P) (elders_are : (e x : ℕ) → Decides (is_among (elders s.rows e) x) (Elder s.rows x e)) where
   stops_posting_is : (e c : ℕ) (p : P) (l : Line P) → Decides (stops_posting R s e c p l) (StopsPosting R s e c p l)
@@ -75,18 +71,6 @@ module _ {V P O : Type 0} (R : Rules V P O) (s : State V P) (elders_are : (e x :
             ),
       )
 
-  earliest_in_the_way : (e c : ℕ) (p : P) (h : ℕ) → DecidesSome (earliest_holder (stops_posting R s e c p) s.lines) h (Earliest (StopsPosting R s e c p) s.lines h)
-  earliest_in_the_way e c p h = (
-    earliest_is (stops_posting R s e c p) (StopsPosting R s e c p) (stops_posting_is e c p) s.lines h,
-    earliest_found (stops_posting R s e c p) (StopsPosting R s e c p) (stops_posting_is e c p) s.lines h,
-  )
-
-  earliest_held : (e h : ℕ) → DecidesSome (earliest_holder (stops_publishing R s e) s.lines) h (Earliest (StopsPublishing R s e) s.lines h)
-  earliest_held e h = (
-    earliest_is (stops_publishing R s e) (StopsPublishing R s e) (stops_publishing_is e) s.lines h,
-    earliest_found (stops_publishing R s e) (StopsPublishing R s e) (stops_publishing_is e) s.lines h,
-  )
-
   -- ---- each question says what it asks
 
   -- the numbers of the questions to a call
@@ -99,84 +83,42 @@ module _ {V P O : Type 0} (R : Rules V P O) (s : State V P) (elders_are : (e x :
   numbers (Value c) = 1 ∷ 4 ∷ []
 
   tells : (call : Call P) → TellEach (λ r. Fails R s r call) (questions R s call) (numbers call)
-  tells (Begin q) =
-      let No : Refusal → Type 0 = λ r. Fails R s r (Begin q) in (
-        ask_tells No s.sound Unsound (λ h. h),
+  tells (Begin q) = (
+    ask_tells _ _ Unsound (λ h. h),
+    (
+      ask_tells _ _ NotStanding (λ h. (let hs = or_parts (eqb q 0) (stands s.rows q) h in (eqb-false q 0 hs.0, hs.1))),
+      (ask_tells _ _ NoFreeRow (ltb-false _ _), (ask_tells _ _ NoNumberLeft (ltb-false _ _), tt)),
+    ),
+  )
+  tells (Post e c p) = (
+    ask_tells _ _ Unsound (λ h. h),
+    (
+      ask_tells _ _ NotStanding (λ h. h),
+      (
+        ask_tells _ _ HasChild (λ h. h),
         (
-          ask_tells No (eqb q 0 || stands s.rows q) NotStanding (λ h. (let hs = or_parts (eqb q 0) (stands s.rows q) h in (eqb-false q 0 hs.0, hs.1))),
+          ask_tells _ _ NoSuchCell (ltb-false _ _),
           (
-            ask_tells No (ltb (length s.rows) s.row_room) NoFreeRow (ltb-false (length s.rows) s.row_room),
-            (
-              ask_tells No (ltb s.begun 65535) NoNumberLeft (ltb-false s.begun 65535),
-              tt,
-            ),
+            ask_tells _ _ UnlawfulPosting (λ h. h),
+            (holder_tells _ _ InTheWay 6 (λ h. refl) (earliest_is _ _ (stops_posting_is e c p) s.lines), (ask_tells _ _ NoFreeLine (ltb-false _ _), tt)),
           ),
         ),
-      )
-  tells (Post e c p) =
-      let No : Refusal → Type 0 = λ r. Fails R s r (Post e c p) in (
-        ask_tells No s.sound Unsound (λ h. h),
-        (
-          ask_tells No (stands s.rows e) NotStanding (λ h. h),
-          (
-            ask_tells No (childless s.rows e) HasChild (λ h. h),
-            (
-              ask_tells No (ltb c (length s.values)) NoSuchCell (ltb-false c (length s.values)),
-              (
-                ask_tells No (R.posting_lawful p) UnlawfulPosting (λ h. h),
-                (
-                  holder_tells No (earliest_holder (stops_posting R s e c p) s.lines) InTheWay 6 (λ h. refl) (λ h. (earliest_in_the_way e c p h).0),
-                  (
-                    ask_tells No (ltb (length s.lines) s.line_room) NoFreeLine (ltb-false (length s.lines) s.line_room),
-                    tt,
-                  ),
-                ),
-              ),
-            ),
-          ),
-        ),
-      )
-  tells (Keep e) =
-      let No : Refusal → Type 0 = λ r. Fails R s r (Keep e) in (
-        ask_tells No s.sound Unsound (λ h. h),
-        (
-          ask_tells No (stands s.rows e) NotStanding (λ h. h),
-          (
-            ask_tells No (childless s.rows e) HasChild (λ h. h),
-            tt,
-          ),
-        ),
-      )
-  tells (Publish e) =
-      let No : Refusal → Type 0 = λ r. Fails R s r (Publish e) in (
-        ask_tells No s.sound Unsound (λ h. h),
-        (
-          ask_tells No (stands s.rows e) NotStanding (λ h. h),
-          (
-            ask_tells No (childless s.rows e) HasChild (λ h. h),
-            (
-              holder_tells No (earliest_holder (stops_publishing R s e) s.lines) HeldByElder 7 (λ h. refl) (λ h. (earliest_held e h).0),
-              tt,
-            ),
-          ),
-        ),
-      )
-  tells (Abandon e) =
-      let No : Refusal → Type 0 = λ r. Fails R s r (Abandon e) in (
-        ask_tells No s.sound Unsound (λ h. h),
-        (
-          ask_tells No (stands s.rows e) NotStanding (λ h. h),
-          tt,
-        ),
-      )
-  tells (Value c) =
-      let No : Refusal → Type 0 = λ r. Fails R s r (Value c) in (
-        ask_tells No s.sound Unsound (λ h. h),
-        (
-          ask_tells No (ltb c (length s.values)) NoSuchCell (ltb-false c (length s.values)),
-          tt,
-        ),
-      )
+      ),
+    ),
+  )
+  tells (Keep e) = (ask_tells _ _ Unsound (λ h. h), (ask_tells _ _ NotStanding (λ h. h), (ask_tells _ _ HasChild (λ h. h), tt)))
+  tells (Publish e) = (
+    ask_tells _ _ Unsound (λ h. h),
+    (
+      ask_tells _ _ NotStanding (λ h. h),
+      (
+        ask_tells _ _ HasChild (λ h. h),
+        (holder_tells _ _ HeldByElder 7 (λ h. refl) (earliest_is _ _ (stops_publishing_is e) s.lines), tt),
+      ),
+    ),
+  )
+  tells (Abandon e) = (ask_tells _ _ Unsound (λ h. h), (ask_tells _ _ NotStanding (λ h. h), tt))
+  tells (Value c) = (ask_tells _ _ Unsound (λ h. h), (ask_tells _ _ NoSuchCell (ltb-false _ _), tt))
 
   numbers_rise : (call : Call P) → rise (numbers call) ≡ true
   numbers_rise (Begin q) = refl
@@ -196,8 +138,8 @@ module _ {V P O : Type 0} (R : Rules V P O) (s : State V P) (elders_are : (e x :
   fails_said NoSuchCell (Post e c p) no_to = inr (inr (inr (inl (ap (λ b. ask b NoSuchCell) (le-ltb c (length s.values) no_to)))))
   fails_said NoSuchCell (Value c) no_to = inr (inl (ap (λ b. ask b NoSuchCell) (le-ltb c (length s.values) no_to)))
   fails_said UnlawfulPosting (Post e c p) no_to = inr (inr (inr (inr (inl (ap (λ b. ask b UnlawfulPosting) no_to)))))
-  fails_said (InTheWay h) (Post e c p) no_to = inr (inr (inr (inr (inr (inl (ap (λ o. ask_holder o InTheWay) ((earliest_in_the_way e c p h).1 no_to)))))))
-  fails_said (HeldByElder h) (Publish e) no_to = inr (inr (inr (inl (ap (λ o. ask_holder o HeldByElder) ((earliest_held e h).1 no_to)))))
+  fails_said (InTheWay h) (Post e c p) no_to = inr (inr (inr (inr (inr (inl (ap (λ o. ask_holder o InTheWay) (earliest_found _ _ (stops_posting_is e c p) s.lines h no_to)))))))
+  fails_said (HeldByElder h) (Publish e) no_to = inr (inr (inr (inl (ap (λ o. ask_holder o HeldByElder) (earliest_found _ _ (stops_publishing_is e) s.lines h no_to)))))
   fails_said NoFreeRow (Begin q) no_to = inr (inr (inl (ap (λ b. ask b NoFreeRow) (le-ltb (length s.rows) s.row_room no_to))))
   fails_said NoFreeLine (Post e c p) no_to = inr (inr (inr (inr (inr (inr (inl (ap (λ b. ask b NoFreeLine) (le-ltb (length s.lines) s.line_room no_to))))))))
   fails_said NoNumberLeft (Begin q) no_to = inr (inr (inr (inl (ap (λ b. ask b NoNumberLeft) (le-ltb s.begun 65535 no_to)))))
