@@ -9,7 +9,7 @@ use Rattle.rules.specs.FairCopy.{EachInTurn}
 use Rattle.rules.proofs.Exchanges.{Same, Laws, same_sym, same_end, same_rightly, right_front, right_append, stays_ok, past_all}
 use Rattle.rules.proofs.Bools.{parts_by}
 use Rattle.rules.proofs.Pairs.{Pairs, pairs_weaker, pairs_and, pairs_from}
-use Rattle.rules.proofs.Holdings.{Held, held, split, cross_held, CrossesBoth}
+use Rattle.rules.proofs.Holdings.{Held, held, split, cross_held}
 use Rattle.rules.proofs.Numbers.{among_cases, among_more}
 use Rattle.rules.proofs.Kinship.{rest, stood, others, other_not, closed_others, kin_self, kin_childless, elder_below, among_elder}
 use Rattle.rules.proofs.Standing.{Core, own, Ordered, left_of, held_ok, frame_rest, seen_rest, own_rest}
@@ -25,7 +25,7 @@ module _ {V X : Type 0} {after : V → X → V} {Right : V → X → Type 0} {Ok
     own_lines = held (own e) table
 
     facts : Pairs (λ g m. Ordered Cross rows g m × (Out e g m × Out e m g)) table
-    facts = pairs_and (Ordered Cross rows) (λ g m. Out e g m × Out e m g) table core.frame.order (pairs_from (Out e) table out)
+    facts = pairs_and _ _ table core.frame.order (pairs_from _ table out)
 
     not_own_elder : is_among (elders rows e) e ≡ true → ⊥
     not_own_elder h = let k : e < e = elder_below rows core.frame.grown (among_elder rows core.frame.grown e e h) in omega arith
@@ -39,8 +39,7 @@ module _ {V X : Type 0} {after : V → X → V} {Right : V → X → Type 0} {Ok
         (λ m. among_more h e (elders rows e) m)
         (λ a b. not_own_elder (subst (λ y. is_among (elders rows e) y ≡ true) (eqb-true h e a) b)))
         table
-        (pairs_weaker (λ g. OkItem g.item) (λ g m. Ordered Cross rows g m × (Out e g m × Out e m g)) (λ g m. is_among (elders rows e) g.holder ≡ true → own e m.holder ≡ true → Cross g.item m.item)
-        (λ g m og om f b a. laws.symm m.item g.item (f.1.0 b a)) table core.frame.items_ok facts)
+        (pairs_weaker (λ g m f b a. laws.symm m.item g.item (f.1.0 b a)) table facts)
 
     own_right : EachInTurn after Right value own_lines
     own_right = right_front laws value own_lines (held (is_among (elders rows e)) table) (same_rightly laws own_first value core.value_ok (held_ok core.frame (is_own_or_elder rows e)) (core.sees e st))
@@ -62,8 +61,7 @@ module _ {V X : Type 0} {after : V → X → V} {Right : V → X → Type 0} {Ok
     crosses_seen f d =
         let apart : (h : ℕ) → own e h ≡ true → is_own_or_elder rows f h ≡ true → ⊥ = λ h a b. d (only_own f (subst (λ y. is_own_or_elder rows f y ≡ true) (eqb-true h e a) b)) in
         cross_held Cross (own e) (is_own_or_elder rows f) apart table
-        (pairs_weaker (λ g. OkItem g.item) (λ g m. Ordered Cross rows g m × (Out e g m × Out e m g)) (CrossesBoth Cross (own e) (is_own_or_elder rows f))
-        (λ g m og om k. (
+        (pairs_weaker (λ g m k. (
           λ a b. elim k.0 [
             | inl c ↦ c
             | inr h ↦ absurd (apart m.holder (eq-eqb m.holder e (only_own m.holder (subst (λ y. is_own_or_elder rows m.holder y ≡ true) (eqb-true g.holder e a) h))) b)
@@ -76,7 +74,7 @@ module _ {V X : Type 0} {after : V → X → V} {Right : V → X → Type 0} {Ok
             ]
           ],
         ))
-        table core.frame.items_ok facts)
+        table facts)
 
     pub committed : Core after Right OkValue OkItem Cross first (rest (others e) rows) (left_of (others e) table) copies committed_value (fair ++ copies e)
     committed = record {

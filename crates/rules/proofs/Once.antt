@@ -27,7 +27,7 @@ unadded s b call r = refl
 differ_append : {P O : Type 0} (Q : ℕ → Type 0) (xs ys : List (Block P O)) → AllDiffer xs → AllDiffer ys → All (λ x. Q x.entry → ⊥) xs → All (λ y. Q y.entry) ys → AllDiffer (xs ++ ys)
 differ_append Q [] ys dx dy without_q with_q = dy
 differ_append Q (x ∷ xs) ys dx dy without_q with_q = (
-  All-append (λ y. x.entry ≡ y.entry → ⊥) xs ys dx.0 (All-weaker (λ y. Q y.entry) (λ y. x.entry ≡ y.entry → ⊥) (λ y q i. without_q.0 (subst Q (sym i) q)) ys with_q),
+  All-append _ xs ys dx.0 (All-weaker _ _ (λ y q i. without_q.0 (subst Q (sym i) q)) ys with_q),
   differ_append Q xs ys dx.1 dy without_q.1 with_q,
 )
 
@@ -124,11 +124,10 @@ module _ {V P O : Type 0} (R : Rules V P O) (law : CrossingLaw R) (first : List 
       let up' = upheld_by R law first s b up x leads.0 in
       let on = blocks_once history u t c up' leads.1 in (
         differ_append (Open u) added later now.0 on.0
-            (All-weaker (Ended s u) (λ block. Open u block.entry → ⊥) (λ block h. h.1) added now.1)
-            (All-weaker (Ended u t) (λ block. Open u block.entry) (λ block h. h.0) later on.1),
+            (All-weaker _ _ (λ block h. h.1) added now.1) (All-weaker _ _ (λ block h. h.0) later on.1),
         All-append (Ended s t) added later
-            (All-weaker (Ended s u) (Ended s t) (λ block h. (h.0, λ o. h.1 (long_open history u t c up' leads.1 block.entry o))) added now.1)
-            (All-weaker (Ended u t) (Ended s t) (λ block h. (was_open R first s b up x.call block.entry h.0, h.1)) later on.1),
+            (All-weaker _ _ (λ block h. (h.0, λ o. h.1 (long_open history u t c up' leads.1 block.entry o))) added now.1)
+            (All-weaker _ _ (λ block h. (was_open R first s b up x.call block.entry h.0, h.1)) later on.1),
       )
 
   module _ (history : List (Event V P O)) (s t : State V P) (b : Book P O) (up : Upheld R first s b) (leads : Leads R s history t) where
@@ -136,4 +135,4 @@ module _ {V P O : Type 0} (R : Rules V P O) (law : CrossingLaw R) (first : List 
     blocks_differ = (blocks_once history s t b up leads).0
 
     pub blocks_ended : All (λ block. stands t.rows block.entry ≡ true → ⊥) (blocks_added R s b history)
-    blocks_ended = All-weaker (Ended s t) (λ block. stands t.rows block.entry ≡ true → ⊥) (λ block h st. h.1 (inl st)) (blocks_added R s b history) (blocks_once history s t b up leads).1
+    blocks_ended = All-weaker _ _ (λ block h st. h.1 (inl st)) (blocks_added R s b history) (blocks_once history s t b up leads).1

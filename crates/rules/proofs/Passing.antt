@@ -9,8 +9,8 @@ use Rattle.rules.specs.Calls.{holder_after}
 use Rattle.rules.specs.FairCopy.{EachInTurn}
 use Rattle.rules.proofs.Exchanges.{Same, Laws, same_trans, same_sym, same_left, same_right, same_all, same_rightly, right_front, right_back, right_append, stays_ok, past_all}
 use Rattle.rules.proofs.Bools.{parts_by}
-use Rattle.rules.proofs.Pairs.{Pairs, pairs_weaker, pairs_map}
-use Rattle.rules.proofs.Holdings.{Held, held, renamed, held_agree, held_renamed, split, cross_held, CrossesBoth}
+use Rattle.rules.proofs.Pairs.{Pairs, all_of, pairs_weaker, pairs_map}
+use Rattle.rules.proofs.Holdings.{Held, held, renamed, held_agree, held_renamed, split, cross_held}
 use Rattle.rules.proofs.Numbers.{among_cases, among_more}
 use Rattle.rules.proofs.Kinship.{Grown, rest, stood, grown_rest, stands_rest, elders_rest, others, not_other, other_not, closed_others, kin_self, kin_trans, kin_childless}
 use Rattle.rules.proofs.Standing.{Frame, Core, own, Ordered, held_ok}
@@ -38,6 +38,9 @@ module _ {V X : Type 0} {after : V → X → V} {Right : V → X → Type 0} {Ok
 
     grown : Grown rows
     grown = core.frame.grown
+
+    by_order : {Z : Held X → Held X → Type 0} → ((g m : Held X) → Ordered Cross rows g m → Z g m) → Pairs Z table
+    by_order k = pairs_weaker k table core.frame.order
 
     same_elders : (f : ℕ) → (f ≡ e → ⊥) → elders left f ≡ elders rows f
     same_elders f d = elders_rest (others e) rows (closed_others rows grown e ch) f (not_other e f d)
@@ -77,11 +80,10 @@ module _ {V X : Type 0} {after : V → X → V} {Right : V → X → Type 0} {Ok
     passed_frame : Frame OkItem Cross left passed_table
     passed_frame = record {
       grown = grown_rest (others e) rows grown (closed_others rows grown e ch);
-      holders = All-map (λ g. stands left g.holder ≡ true) (passed_on e q) table (All-weaker (λ g. stands rows g.holder ≡ true) (λ g. stands left (holder_after e q g.holder) ≡ true) (λ g s. after_stands g.holder s) table core.frame.holders);
-      items_ok = All-map (λ g. OkItem g.item) (passed_on e q) table core.frame.items_ok;
-      order = pairs_map (passed_on e q) (Ordered Cross left) table
-          (pairs_weaker (λ g. OkItem g.item) (Ordered Cross rows) (λ g m. Cross g.item m.item ⊎ (is_own_or_elder left (holder_after e q m.holder) (holder_after e q g.holder) ≡ true))
-          (λ g m og om o. elim o [ inl c ↦ inl c | inr h ↦ inr (after_kin g.holder m.holder h) ]) table core.frame.items_ok core.frame.order);
+      holders = All-map _ (passed_on e q) table (All-weaker _ _ (λ g s. after_stands g.holder s) table core.frame.holders);
+      items_ok = All-map _ (passed_on e q) table core.frame.items_ok;
+      order = pairs_map _ (passed_on e q) table
+          (pairs_weaker (λ g m o. elim o [ inl c ↦ inl c | inr h ↦ inr (after_kin g.holder m.holder h) ]) table core.frame.order);
     }
 
     -- what f sees after
@@ -96,11 +98,10 @@ module _ {V X : Type 0} {after : V → X → V} {Right : V → X → Type 0} {Ok
       sees_apart : is_own_or_elder rows f q ≡ false → EachInTurn after Right value (held sight table)
       sees_apart a = subst (EachInTurn after Right value)
           (held_agree (is_own_or_elder rows f) sight table
-          (All-weaker (λ g. OkItem g.item) (λ g. is_own_or_elder rows f g.holder ≡ sight g.holder)
-          (λ g o. elim (cases_eq g.holder e) [
+          (all_of (λ g. elim (cases_eq g.holder e) [
             | inl i ↦ ap (is_own_or_elder rows f) i ∙ false_from_ne_true _ (not_among f d) ∙ sym a ∙ ap (is_own_or_elder rows f) (sym (after_own e q g.holder i))
             | inr n ↦ ap (is_own_or_elder rows f) (sym (after_other e q g.holder n))
-          ]) table core.frame.items_ok))
+          ]) table))
           (core.sees f sf)
 
       -- the lines of f and of its elders below q
@@ -133,16 +134,12 @@ module _ {V X : Type 0} {after : V → X → V} {Right : V → X → Type 0} {Ok
         above_in : (h : ℕ) → is_own_or_elder rows q h ≡ true → is_own_or_elder rows f h ≡ true
         above_in h m = kin_trans rows grown f q h u m
 
-        by_order : (Z : Held X → Held X → Type 0) → ((g m : Held X) → Ordered Cross rows g m → Z g m) → Pairs Z table
-        by_order Z k = pairs_weaker (λ g. OkItem g.item) (Ordered Cross rows) Z (λ g m og om o. k g m o) table core.frame.items_ok core.frame.order
-
         -- f saw: the lines of q and above, and then the lower ones
         saw : Same Cross (held (is_own_or_elder rows f) table) (upper_lines ++ lower_lines)
         saw = split (is_own_or_elder rows f) (is_own_or_elder rows q) lower
             (λ h. parts_by (is_own_or_elder rows f h) (is_own_or_elder rows q h) (lower h) (either h) (above_in h) (lower_in h) (λ a b. lower_out h b a))
             table
-            (by_order (λ g m. lower g.holder ≡ true → is_own_or_elder rows q m.holder ≡ true → Cross g.item m.item)
-            (λ g m o b a. elim o [ inl c ↦ c | inr h ↦ absurd (lower_out g.holder b (kin_trans rows grown q m.holder g.holder a h)) ]))
+            (by_order (λ g m o b a. elim o [ inl c ↦ c | inr h ↦ absurd (lower_out g.holder b (kin_trans rows grown q m.holder g.holder a h)) ]))
 
         -- e saw: the lines of q and above, and then its own
         e_saw : Same Cross (held (is_own_or_elder rows e) table) (upper_lines ++ own_lines)
@@ -153,8 +150,7 @@ module _ {V X : Type 0} {after : V → X → V} {Right : V → X → Type 0} {Ok
             (λ m. subst (λ y. is_own_or_elder rows e y ≡ true) (sym (eqb-true h e m)) (kin_self rows grown e))
             (λ a b. not_e q h ne a (eqb-true h e b)))
             table
-            (by_order (λ g m. own e g.holder ≡ true → is_own_or_elder rows q m.holder ≡ true → Cross g.item m.item)
-            (λ g m o b a. elim o [ inl c ↦ c | inr h ↦ absurd (not_e q m.holder ne a (kin_childless rows grown e m.holder ch (subst (λ y. is_own_or_elder rows m.holder y ≡ true) (eqb-true g.holder e b) h))) ]))
+            (by_order (λ g m o b a. elim o [ inl c ↦ c | inr h ↦ absurd (not_e q m.holder ne a (kin_childless rows grown e m.holder ch (subst (λ y. is_own_or_elder rows m.holder y ≡ true) (eqb-true g.holder e b) h))) ]))
 
         -- f sees: what e saw, and then the lower ones
         sight_splits : Same Cross (held sight table) (held (is_own_or_elder rows e) table ++ lower_lines)
@@ -171,13 +167,11 @@ module _ {V X : Type 0} {after : V → X → V} {Right : V → X → Type 0} {Ok
             (λ m. subst (λ y. is_own_or_elder rows f y ≡ true) (sym (after_other e q h (not_e f h d (lower_in h m)))) (lower_in h m))
             (λ a b. lower_apart h b a))
             table
-            (by_order (λ g m. lower g.holder ≡ true → is_own_or_elder rows e m.holder ≡ true → Cross g.item m.item)
-            (λ g m o b a. elim o [ inl c ↦ c | inr h ↦ absurd (lower_apart g.holder b (kin_trans rows grown e m.holder g.holder a h)) ]))
+            (by_order (λ g m o b a. elim o [ inl c ↦ c | inr h ↦ absurd (lower_apart g.holder b (kin_trans rows grown e m.holder g.holder a h)) ]))
 
         lower_crossed : All (λ x. All (Cross x) lower_lines) own_lines
         lower_crossed = cross_held Cross (own e) lower (λ h a b. not_e f h d (lower_in h b) (eqb-true h e a)) table
-            (by_order (CrossesBoth Cross (own e) lower)
-            (λ g m o. (
+            (by_order (λ g m o. (
               λ a b. elim o [
                 | inl c ↦ c
                 | inr h ↦ absurd (not_e f m.holder d (lower_in m.holder b) (kin_childless rows grown e m.holder ch (subst (λ y. is_own_or_elder rows m.holder y ≡ true) (eqb-true g.holder e a) h)))
@@ -217,12 +211,10 @@ module _ {V X : Type 0} {after : V → X → V} {Right : V → X → Type 0} {Ok
         (λ m. subst (λ y. own q y ≡ true) (sym (after_own e q h (eqb-true h e m))) (eq-eqb q q refl))
         (λ a b. ne (sym (eqb-true h q a) ∙ eqb-true h e b)))
         table
-        (pairs_weaker (λ g. OkItem g.item) (Ordered Cross rows) (λ g m. own e g.holder ≡ true → own q m.holder ≡ true → Cross g.item m.item)
-        (λ g m og om o b a. elim o [
+        (by_order (λ g m o b a. elim o [
           | inl c ↦ c
           | inr h ↦ absurd (not_e q g.holder ne (subst (λ y. is_own_or_elder rows y g.holder ≡ true) (eqb-true m.holder q a) h) (eqb-true g.holder e b))
-        ])
-        table core.frame.items_ok core.frame.order)
+        ]))
 
     copied_q : Same Cross (copies q ++ copies e) (held (own q) passed_table)
     copied_q = subst (Same Cross (copies q ++ copies e)) (sym (held_renamed (holder_after e q) (own q) table))
@@ -231,11 +223,10 @@ module _ {V X : Type 0} {after : V → X → V} {Right : V → X → Type 0} {Ok
     copied_other : (f : ℕ) → stands rows f ≡ true → (f ≡ e → ⊥) → (f ≡ q → ⊥) → Same Cross (copies f) (held (own f) passed_table)
     copied_other f s d n = subst (Same Cross (copies f))
         (held_agree (own f) (λ h. own f (holder_after e q h)) table
-        (All-weaker (λ g. OkItem g.item) (λ g. own f g.holder ≡ own f (holder_after e q g.holder))
-        (λ g o. elim (cases_eq g.holder e) [
+        (all_of (λ g. elim (cases_eq g.holder e) [
           | inl i ↦ ne_eqb g.holder f (λ j. d (sym j ∙ i)) ∙ sym (ne_eqb q f (λ j. n (sym j))) ∙ ap (own f) (sym (after_own e q g.holder i))
           | inr k ↦ ap (own f) (sym (after_other e q g.holder k))
-        ]) table core.frame.items_ok)
+        ]) table)
         ∙ sym (held_renamed (holder_after e q) (own f) table))
         (core.copied f s)
 

@@ -10,7 +10,7 @@ use Rattle.rules.proofs.Exchanges.{Same, Laws, same_right, right_append}
 use Rattle.rules.proofs.Pairs.{pairs_push}
 use Rattle.rules.proofs.Holdings.{Held, held, held_push}
 use Rattle.rules.proofs.Kinship.{kin_self, kin_childless}
-use Rattle.rules.proofs.Standing.{Core, own, Ordered}
+use Rattle.rules.proofs.Standing.{Core, own}
 
 module _ {V X : Type 0} {after : V → X → V} {Right : V → X → Type 0} {OkValue : V → Type 0} {OkItem : X → Type 0} {Cross : X → X → Type 0} (laws : Laws after Right OkValue OkItem Cross)
     {first : V} {rows : List Row} {table : List (Held X)} {copies : ℕ → List X} {value : V} {fair : List X} (core : Core after Right OkValue OkItem Cross first rows table copies value fair) where
@@ -34,9 +34,9 @@ module _ {V X : Type 0} {after : V → X → V} {Right : V → X → Type 0} {Ok
     posted = record {
       frame = record {
         grown = core.frame.grown;
-        holders = All-push (λ g. stands rows g.holder ≡ true) table (record { holder = e; item = x }) core.frame.holders st;
-        items_ok = All-push (λ g. OkItem g.item) table (record { holder = e; item = x }) core.frame.items_ok ok;
-        order = pairs_push (Ordered Cross rows) table (record { holder = e; item = x }) core.frame.order way;
+        holders = All-push _ table (record { holder = e; item = x }) core.frame.holders st;
+        items_ok = All-push _ table (record { holder = e; item = x }) core.frame.items_ok ok;
+        order = pairs_push _ table (record { holder = e; item = x }) core.frame.order way;
       };
       value_ok = core.value_ok;
       sees = λ f s. elim (cases_eq e f) [

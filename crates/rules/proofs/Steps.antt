@@ -2,7 +2,7 @@
 use Rattle.std.proofs.Common.{◌≡◌, ℕ, ◌+◌, ◌<◌, Bool, true, false, cond, not, ◌&&◌, ◌||◌, eqb, ◌⊎◌, List, [], ◌∷◌, ◌++◌, map, None, fold, filter, sym, refl, ap, ◌∙◌, subst, inl, inr, arith}
 use mathlib.Core.Bool.{false≢true}
 use Rattle.std.specs.List.{AllByRecursion as All}
-use Rattle.std.proofs.lemmas.Bool.{eqb-true, eqb-false, eq-eqb, ne_eqb, or_cases, cases_eq, and_cases, not-false}
+use Rattle.std.proofs.lemmas.Bool.{eqb-true, eqb-false, eq-eqb, ne_eqb, or_cases, cases_eq, and_cases, not-false, both_ways}
 use Rattle.std.proofs.ByRecursion.{All-weaker}
 use Rattle.std.proofs.lemmas.List.{map_push}
 use Rattle.cells.specs.Kinds.{Rules, CrossingLaw}
@@ -21,6 +21,7 @@ use Rattle.rules.specs.Books.{Copied, Copy, then_line, then_block, lines_of, Boo
 use Rattle.rules.specs.FairCopy.{Event, post_line, GetsItsAnswer}
 use Rattle.rules.proofs.Holdings.{Held, held, renamed}
 use Rattle.rules.proofs.Kinship.{Grown, stood, stands_rest, others, not_other, joined_cases, elders_top, elders_inner, no_child}
+use Rattle.rules.proofs.Pairs.{all_of}
 use Rattle.rules.proofs.Standing.{Core, left_of, other_copies}
 use Rattle.rules.proofs.Beginning.{began}
 use Rattle.rules.proofs.Posting.{posted}
@@ -79,7 +80,7 @@ module _ {V P O : Type 0} (R : Rules V P O) (law : CrossingLaw R) (first : List 
   none_in_way : (e c : ℕ) (p : P) (x : O) → earliest_holder (stops_posting R s e c p) s.lines ≡ None
       → All (λ g. Crosses R g.item (record { cell = c; posting = p; answer = x }) ⊎ (is_own_or_elder s.rows e g.holder ≡ true)) up.table
   none_in_way e c p x none =
-      All-weaker (λ g. stops_posting R s e c p (bare g) ≡ false) (λ g. Crosses R g.item (record { cell = c; posting = p; answer = x }) ⊎ (is_own_or_elder s.rows e g.holder ≡ true))
+      All-weaker _ _
       (λ g h. (
       let ours = is_own_or_elder s.rows e g.holder in
       let crossed = R.crosses p g.item.posting in
@@ -143,15 +144,15 @@ module _ {V P O : Type 0} (R : Rules V P O) (law : CrossingLaw R) (first : List 
   -- what question 7 finds: each line of the entry crosses each line that an elder holds on its cell
   none_withheld : (e : ℕ) → earliest_holder (stops_publishing R s e) s.lines ≡ None → LetsOut e
   none_withheld e none =
-      All-weaker (λ g. stops_publishing R s e (bare g) ≡ false) (λ g. All (Out (laws R law) up.core e g) up.table)
+      All-weaker _ _
       (λ g h. (
       let elders_line = is_among (elders s.rows e) g.holder in
       let clashes : Line P → Bool = λ l. eqb l.holder e && (eqb l.cell g.item.cell && not (R.crosses l.posting g.item.posting)) in
       elim (and_cases elders_line (some_line clashes s.lines) h) [
-        | inl d ↦ All-weaker (λ m. LawfulLine R m.item) (Out (laws R law) up.core e g) (λ m o k a. absurd (false≢true (sym d ∙ k))) up.table up.core.frame.items_ok
-        | inr o ↦ All-weaker (λ m. clashes (bare m) ≡ false) (Out (laws R law) up.core e g)
+        | inl d ↦ all_of (λ m k a. absurd (both_ways _ d k)) up.table
+        | inr o ↦ All-weaker _ _
             (λ m t k a. elim (and_cases (eqb m.holder e) (eqb m.item.cell g.item.cell && not (R.crosses m.item.posting g.item.posting)) t) [
-              | inl d ↦ absurd (false≢true (sym d ∙ a))
+              | inl d ↦ absurd (both_ways _ d a)
               | inr u ↦ elim (and_cases (eqb m.item.cell g.item.cell) (not (R.crosses m.item.posting g.item.posting)) u) [
                 | inl d ↦ inl (eqb-false m.item.cell g.item.cell d)
                 | inr cr ↦ inr (not-false (R.crosses m.item.posting g.item.posting) cr)
@@ -172,11 +173,7 @@ module _ {V P O : Type 0} (R : Rules V P O) (law : CrossingLaw R) (first : List 
   top_good : (e : ℕ) → stands s.rows e ≡ true → childless s.rows e ≡ true → parent_of s.rows e ≡ 0 → Upheld R first (committed_state R s e) (with_fair_block b e)
   top_good e st ch top =
       commit_good e st ch
-      (All-weaker (λ g. LawfulLine R g.item) (λ g. All (Out (laws R law) up.core e g) up.table)
-      (λ g o. All-weaker (λ m. LawfulLine R m.item) (Out (laws R law) up.core e g)
-      (λ m u k a. absurd (false≢true (subst (λ l. is_among l g.holder ≡ true) (elders_top s.rows e top) k)))
-      up.table up.core.frame.items_ok)
-      up.table up.core.frame.items_ok)
+      (all_of (λ g. all_of (λ m k a. absurd (false≢true (subst (λ l. is_among l g.holder ≡ true) (elders_top s.rows e top) k))) up.table) up.table)
 
   -- ---- an inner keep
 
