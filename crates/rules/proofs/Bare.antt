@@ -1,11 +1,13 @@
 -- The register's lines are those of a table of held lines without their answers; so what is done to the one is done to the other,
 -- and what a question finds in the one it finds in the other.
-use Rattle.std.proofs.Common.{◌≡◌, ℕ, Bool, true, false, cond, List, [], ◌∷◌, map, Some, None, filter, Option, refl, ap}
+use Rattle.std.proofs.Common.{◌≡◌, ℕ, Bool, true, false, cond, List, [], ◌∷◌, map, Some, None, filter, Option, refl, sym, ◌∙◌}
 use Rattle.std.specs.List.{AllByRecursion as All}
 use Rattle.std.proofs.lemmas.Bool.{or_parts}
 use Rattle.rules.specs.declared.lines.Line.{Line}
 use Rattle.rules.specs.Calls.{holder_after, pass_on, some_line, earliest_holder}
 use Rattle.rules.specs.Books.{Copied}
+use Rattle.std.proofs.lemmas.Simd.{map-map}
+use Rattle.rules.proofs.Pairs.{filter_map_swap}
 use Rattle.rules.proofs.Holdings.{Held, renamed}
 use Rattle.rules.proofs.Standing.{left_of}
 use Rattle.rules.proofs.Stores.{bare}
@@ -28,17 +30,11 @@ module _ {P : Type 0} (test : Line P → Bool) where
 -- ---- lines without their answers
 
 module _ {P O : Type 0} where
-  kept_cond : (b : Bool) (g : Held (Copied P O)) (ls : List (Line P)) (gs : List (Held (Copied P O))) → ls ≡ map bare gs → cond b (bare g ∷ ls) ls ≡ map bare (cond b (g ∷ gs) gs)
-  kept_cond true g ls gs e = ap (λ w. bare g ∷ w) e
-  kept_cond false g ls gs e = e
-
   pub kept_bare : (k : ℕ → Bool) (gs : List (Held (Copied P O))) → filter (λ l. k l.holder) (map bare gs) ≡ map bare (left_of k gs)
-  kept_bare k [] = refl
-  kept_bare k (g ∷ gs) = kept_cond (k g.holder) g (filter (λ l. k l.holder) (map bare gs)) (left_of k gs) (kept_bare k gs)
+  kept_bare k gs = filter_map_swap bare (λ l. k l.holder) gs
 
   pub passed_bare : (e q : ℕ) (gs : List (Held (Copied P O))) → pass_on e q (map bare gs) ≡ map bare (renamed (holder_after e q) gs)
-  passed_bare e q [] = refl
-  passed_bare e q (g ∷ gs) = ap (λ w. bare (record { holder = holder_after e q g.holder; item = g.item }) ∷ w) (passed_bare e q gs)
+  passed_bare e q gs = map-map _ bare gs ∙ sym (map-map bare _ gs)
 
   pub all_bare : (Q : Line P → Type 0) (gs : List (Held (Copied P O))) → All Q (map bare gs) → All (λ g. Q (bare g)) gs
   all_bare Q [] a = tt

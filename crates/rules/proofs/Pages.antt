@@ -1,11 +1,14 @@
 -- The pages of a book: whose they are and which copy each has, once one is added, written on or taken out.
-use Rattle.std.proofs.Common.{◌≡◌, ℕ, Bool, true, false, cond, eqb, List, [], ◌∷◌, ◌++◌, filter, sym, refl, ap, ◌∙◌, inl, inr}
+use Rattle.std.proofs.Common.{◌≡◌, ℕ, Bool, true, cond, eqb, List, [], ◌∷◌, ◌++◌, filter, sym, refl, ap, ◌∙◌, inl, inr}
 use mathlib.Core.Bool.{false≢true}
-use Rattle.std.proofs.lemmas.Bool.{eq-eqb, ne_eqb, cases_eq}
+use Rattle.std.proofs.lemmas.Bool.{eqb-true, eq-eqb, ne_eqb, cases_eq, cond_both}
 use Rattle.rules.specs.declared.rows.Row.{Row}
 use Rattle.rules.specs.Entries.{stands}
 use Rattle.rules.specs.Books.{Copy, empty, Page, rows_of, copy_of, write_on}
-use Rattle.rules.proofs.Kinship.{rest, stands_own, stands_more, stands_cases}
+use Rattle.std.proofs.lemmas.List.{map_push}
+use Rattle.std.proofs.lemmas.Simd.{map-map}
+use Rattle.rules.proofs.Pairs.{filter_map_swap}
+use Rattle.rules.proofs.Kinship.{found_left, rest, stands_own, stands_more, stands_cases}
 
 module _ {P O : Type 0} where
   abbrev row_of : Page P O → Row
@@ -23,24 +26,18 @@ module _ {P O : Type 0} where
 
   -- an empty page is added
   pub rows_pushed : (pages : List (Page P O)) (n q : ℕ) → rows_of (pages ++ (record { entry = n; parent = q; copy = empty } ∷ [])) ≡ rows_of pages ++ (record { entry = n; parent = q } ∷ [])
-  rows_pushed [] n q = refl
-  rows_pushed (g ∷ pages) n q = ap (λ rs. row_of g ∷ rs) (rows_pushed pages n q)
-
-  either_empty : (b : Bool) (copy : Copy P O) → copy ≡ empty → cond b copy empty ≡ empty
-  either_empty true copy h = h
-  either_empty false copy h = refl
+  rows_pushed pages n q = map_push row_of pages (record { entry = n; parent = q; copy = empty })
 
   pub copy_pushed : (pages : List (Page P O)) (n q e : ℕ) → copy_of (pages ++ (record { entry = n; parent = q; copy = empty } ∷ [])) e ≡ copy_of pages e
-  copy_pushed [] n q e = either_empty (eqb n e) empty refl
+  copy_pushed [] n q e = cond_both (eqb n e) empty empty (λ copy. copy ≡ empty) (λ t. refl) (λ f. refl)
   copy_pushed (g ∷ pages) n q e = ap (cond (eqb g.entry e) g.copy) (copy_pushed pages n q e)
 
   -- a page is written on
-  pub rows_written : (e : ℕ) (more : Copy P O → Copy P O) (pages : List (Page P O)) → rows_of (write_on e more pages) ≡ rows_of pages
-  rows_written e more [] = refl
-  rows_written e more (g ∷ pages) = ap (λ rs. row_of g ∷ rs) (rows_written e more pages)
-
   abbrev written : ℕ → (Copy P O → Copy P O) → Page P O → Page P O
   written e more g = record { entry = g.entry; parent = g.parent; copy = cond (eqb g.entry e) (more g.copy) g.copy }
+
+  pub rows_written : (e : ℕ) (more : Copy P O → Copy P O) (pages : List (Page P O)) → rows_of (write_on e more pages) ≡ rows_of pages
+  rows_written e more pages = map-map row_of (written e more) pages
 
   pub copy_written : (e : ℕ) (more : Copy P O → Copy P O) (pages : List (Page P O)) → stands (rows_of pages) e ≡ true → copy_of (write_on e more pages) e ≡ more (copy_of pages e)
   copy_written e more [] s = absurd (false≢true s)
@@ -64,21 +61,8 @@ module _ {P O : Type 0} where
     abbrev pub left_pages : List (Page P O) → List (Page P O)
     left_pages pages = filter (λ g. k g.entry) pages
 
-    rows_cond : (b : Bool) (g : Page P O) (pages : List (Page P O)) (rows : List Row) → rows_of pages ≡ rows → rows_of (cond b (g ∷ pages) pages) ≡ cond b (row_of g ∷ rows) rows
-    rows_cond true g pages rows e = ap (λ rs. row_of g ∷ rs) e
-    rows_cond false g pages rows e = e
-
     pub rows_left : (pages : List (Page P O)) → rows_of (left_pages pages) ≡ rest k (rows_of pages)
-    rows_left [] = refl
-    rows_left (g ∷ pages) = rows_cond (k g.entry) g (left_pages pages) (rest k (rows_of pages)) (rows_left pages)
-
-    copy_cond : (b : Bool) (g : Page P O) (pages : List (Page P O)) (e : ℕ) → (g.entry ≡ e → ⊥) → copy_of (cond b (g ∷ pages) pages) e ≡ copy_of pages e
-    copy_cond true g pages e d = copy_other g pages e d
-    copy_cond false g pages e d = refl
+    rows_left pages = sym (filter_map_swap row_of (λ r. k r.entry) pages)
 
     pub copy_left : (pages : List (Page P O)) (e : ℕ) → k e ≡ true → copy_of (left_pages pages) e ≡ copy_of pages e
-    copy_left [] e h = refl
-    copy_left (g ∷ pages) e h = elim (cases_eq g.entry e) [
-      | inl i ↦ ap (λ b. copy_of (cond b (g ∷ left_pages pages) (left_pages pages)) e) (ap k i ∙ h) ∙ copy_own g (left_pages pages) e i ∙ sym (copy_own g pages e i)
-      | inr d ↦ copy_cond (k g.entry) g (left_pages pages) e d ∙ copy_left pages e h ∙ sym (copy_other g pages e d)
-    ]
+    copy_left pages e h = found_left (λ gs. copy_of gs e) (λ g. eqb g.entry e) (λ g. g.copy) (λ g gs. refl) (λ g. k g.entry) (λ g t. ap k (eqb-true g.entry e t) ∙ h) pages

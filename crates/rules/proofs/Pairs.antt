@@ -1,5 +1,6 @@
 -- What holds of each element of a list, and of each two, the earlier first.
-use Rattle.std.proofs.Common.{◌≡◌, Bool, true, false, cond, List, [], ◌∷◌, ◌++◌, map, filter, refl}
+use Rattle.std.proofs.Common.{◌≡◌, Bool, true, false, cond, List, [], ◌∷◌, ◌++◌, map, filter, refl, ap, ◌∙◌}
+use Rattle.std.proofs.lemmas.Bool.{cond_both, cond-true, cond-false}
 use Rattle.std.specs.List.{AllByRecursion as All}
 use Rattle.std.proofs.ByRecursion.{All-weaker, All-push, all_kept_by, All-map}
 
@@ -36,6 +37,13 @@ pairs_keep Q false g gs p ps = ps
 pub pairs_kept : {G : Type 0} (Q : G → G → Type 0) (t : G → Bool) (gs : List G) → Pairs Q gs → Pairs Q (filter t gs)
 pairs_kept Q t [] p = tt
 pairs_kept Q t (g ∷ gs) p = pairs_keep _ (t g) g (filter t gs) (all_kept_by t _ gs p.0) (pairs_kept _ t gs p.1)
+
+-- to filter what a function gives is to filter by what it gives
+pub filter_map_swap : {F G : Type 0} (f : F → G) (t : G → Bool) (xs : List F) → filter t (map f xs) ≡ map f (filter (λ x. t (f x)) xs)
+filter_map_swap f t [] = refl
+filter_map_swap f t (x ∷ xs) =
+    cond_both (t (f x)) (x ∷ filter (λ y. t (f y)) xs) (filter (λ y. t (f y)) xs) (λ l. filter t (map f (x ∷ xs)) ≡ map f l)
+    (λ y. cond-true _ _ _ y ∙ ap (λ l. f x ∷ l) (filter_map_swap f t xs)) (λ n. cond-false _ _ _ n ∙ filter_map_swap f t xs)
 
 -- what is kept passes the test
 pub all_passed_cond : {G : Type 0} (P : G → Type 0) (b : Bool) (g : G) (gs : List G) → (b ≡ true → P g) → All P gs → All P (cond b (g ∷ gs) gs)

@@ -43,7 +43,7 @@ module _ {V X : Type 0} {after : V → X → V} {Right : V → X → Type 0} {Ok
     by_order k = pairs_weaker k table core.frame.order
 
     same_elders : (f : ℕ) → (f ≡ e → ⊥) → elders left f ≡ elders rows f
-    same_elders f d = elders_rest (others e) rows (closed_others rows grown e ch) f (not_other e f d)
+    same_elders f d = elders_rest (others e) rows grown (closed_others rows grown e ch) f (not_other e f d)
 
     not_among : (f : ℕ) → (f ≡ e → ⊥) → is_own_or_elder rows f e ≡ true → ⊥
     not_among f d h = d (kin_childless rows grown e f ch h)
