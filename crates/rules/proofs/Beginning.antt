@@ -1,7 +1,7 @@
 -- A begin: a new entry stands, with nothing held and nothing copied.
-use Rattle.std.proofs.Common.{◌≡◌, ℕ, ◌<◌, true, cond, ◌||◌, eqb, ◌⊎◌, List, [], ◌∷◌, sym, refl, ap, ◌∙◌, subst, inl, inr, arith}
+use Rattle.std.proofs.Common.{◌≡◌, ℕ, ◌<◌, true, cond, ◌||◌, eqb, ◌⊎◌, List, [], ◌∷◌, sym, ap, ◌∙◌, subst, inl, inr, arith}
 use Rattle.std.specs.List.{AllByRecursion as All}
-use Rattle.std.proofs.lemmas.Bool.{eq-eqb, ne_eqb}
+use Rattle.std.proofs.lemmas.Bool.{ne_eqb}
 use Rattle.std.proofs.ByRecursion.{All-weaker}
 use Rattle.rules.specs.declared.rows.Row.{Row}
 use Rattle.rules.specs.Entries.{stands, elders, is_among, is_own_or_elder}
@@ -10,7 +10,7 @@ use Rattle.rules.proofs.Exchanges.{Same, same_nil}
 use Rattle.rules.proofs.Pairs.{pairs_where}
 use Rattle.rules.proofs.Holdings.{Held, held, held_agree, held_none}
 use Rattle.rules.proofs.Kinship.{joined, joined_old, joined_cases, elders_joined, grown_joined, elders_new_top, elders_new_inner}
-use Rattle.rules.proofs.Standing.{Core, own}
+use Rattle.rules.proofs.Standing.{copied_with, Core, own}
 
 module _ {V X : Type 0} {after : V → X → V} {Right : V → X → Type 0} {OkValue : V → Type 0} {OkItem : X → Type 0} {Cross : X → X → Type 0}
     {first : V} {rows : List Row} {table : List (Held X)} {copies : ℕ → List X} {value : V} {fair : List X} (core : Core after Right OkValue OkItem Cross first rows table copies value fair) where
@@ -53,10 +53,8 @@ module _ {V X : Type 0} {after : V → X → V} {Right : V → X → Type 0} {Ok
         | inl i ↦ subst (λ x. EachInTurn after Right value (held (is_own_or_elder grown_rows x) table)) (sym i) (sees_by under)
         | inr t ↦ subst (λ l. EachInTurn after Right value (held (is_among (e ∷ l)) table)) (sym (elders_joined rows n q above core.frame.grown e t)) (core.sees e t)
       ];
-      copied = λ e s. elim (joined_cases rows n q above e s) [
-        | inl i ↦ subst (λ x. Same Cross (begun_copies x) (held (own x) table)) (sym i) (subst (λ l. Same Cross (begun_copies n) l) (sym (none_own table core.frame.holders)) (subst (λ b. Same Cross (cond b [] (copies n)) []) (sym (eq-eqb n n refl)) same_nil))
-        | inr t ↦ subst (λ b. Same Cross (cond b [] (copies e)) (held (own e) table)) (sym (ne_eqb e n (older e t))) (core.copied e t)
-      ];
+      copied = λ e s. copied_with table copies n [] (subst (Same Cross []) (sym (none_own table core.frame.holders)) same_nil)
+          e (λ d. core.copied e (elim (joined_cases rows n q above e s) [ inl i ↦ absurd (d i) | inr t ↦ t ]));
       fair_right = core.fair_right;
       fair_value = core.fair_value;
     }

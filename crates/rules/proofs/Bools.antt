@@ -1,5 +1,5 @@
 -- Facts about tests that the shelf has in other forms: a test that another implies, and one that is made of two others.
-use Rattle.std.proofs.Common.{◌≡◌, Bool, true, false, ◌&&◌, ◌⊎◌, refl, inl, inr}
+use Rattle.std.proofs.Common.{◌≡◌, Bool, true, false, not, ◌&&◌, ◌||◌, refl}
 pub use Rattle.std.proofs.lemmas.Bool.{false_from_ne_true as false_by}
 
 -- a test that another implies
@@ -14,11 +14,27 @@ pub data Parts : Bool → Bool → Bool → Type 0 where
   second : Parts true false true
   neither : Parts false false false
 
-pub parts_by : (t a b : Bool) → (t ≡ true → (a ≡ true) ⊎ (b ≡ true)) → (a ≡ true → t ≡ true) → (b ≡ true → t ≡ true) → (a ≡ true → b ≡ true → ⊥) → Parts t a b
-parts_by true true true f p q d = absurd (d refl refl)
-parts_by true true false f p q d = first
-parts_by true false true f p q d = second
-parts_by true false false f p q d = elim (f refl) [ inl h ↦ cc | inr h ↦ cc ]
-parts_by false true b f p q d = cc (p refl)
-parts_by false false true f p q d = cc (q refl)
-parts_by false false false f p q d = neither
+pub parts_swap : {t a b : Bool} → Parts t a b → Parts t b a
+parts_swap first = second
+parts_swap second = first
+parts_swap neither = neither
+
+pub parts_first : (t a b : Bool) → t ≡ true → a ≡ true → b ≡ false → Parts t a b
+parts_first true true false p q r = first
+parts_first t a b p q r = cc
+
+pub parts_alone : (t : Bool) → Parts t t false
+parts_alone true = first
+parts_alone false = neither
+
+pub parts_or : (a b : Bool) → (a ≡ true → b ≡ true → ⊥) → Parts (a || b) a b
+parts_or true true d = absurd (d refl refl)
+parts_or true false d = first
+parts_or false true d = second
+parts_or false false d = neither
+
+pub parts_rest : (t a : Bool) → (a ≡ true → t ≡ true) → Parts t a (t && not a)
+parts_rest true true f = first
+parts_rest true false f = second
+parts_rest false true f = cc (f refl)
+parts_rest false false f = neither

@@ -7,11 +7,11 @@ use Rattle.rules.specs.declared.rows.Row.{Row}
 use Rattle.rules.specs.Entries.{stands, childless, elders, is_among, is_own_or_elder}
 use Rattle.rules.specs.FairCopy.{EachInTurn}
 use Rattle.rules.proofs.Exchanges.{Same, Laws, same_sym, same_end, same_rightly, right_front, right_append, stays_ok, past_all}
-use Rattle.rules.proofs.Bools.{parts_by}
+use Rattle.rules.proofs.Bools.{parts_or}
 use Rattle.rules.proofs.Pairs.{Pairs, pairs_weaker, pairs_and, pairs_from}
 use Rattle.rules.proofs.Holdings.{Held, held, split, cross_held}
-use Rattle.rules.proofs.Numbers.{among_cases, among_more}
-use Rattle.rules.proofs.Kinship.{rest, stood, others, other_not, closed_others, kin_self, kin_childless, elder_below, among_elder}
+use Rattle.rules.proofs.Numbers.{among_cases}
+use Rattle.rules.proofs.Kinship.{rest, stood, others, other_not, closed_others, kin_childless, elder_below, among_elder}
 use Rattle.rules.proofs.Standing.{Core, own, Ordered, left_of, held_ok, frame_rest, seen_rest, own_rest}
 
 module _ {V X : Type 0} {after : V → X → V} {Right : V → X → Type 0} {OkValue : V → Type 0} {OkItem : X → Type 0} {Cross : X → X → Type 0} (laws : Laws after Right OkValue OkItem Cross)
@@ -33,11 +33,7 @@ module _ {V X : Type 0} {after : V → X → V} {Right : V → X → Type 0} {Ok
     -- its own lines may go first among those that it sees
     own_first : Same Cross (held (is_own_or_elder rows e) table) (own_lines ++ held (is_among (elders rows e)) table)
     own_first = split (is_own_or_elder rows e) (own e) (is_among (elders rows e))
-        (λ h. parts_by (is_own_or_elder rows e h) (own e h) (is_among (elders rows e) h)
-        (λ m. elim (among_cases h e (elders rows e) m) [ inl i ↦ inl (eq-eqb h e i) | inr k ↦ inr k ])
-        (λ m. subst (λ y. is_own_or_elder rows e y ≡ true) (sym (eqb-true h e m)) (kin_self rows core.frame.grown e))
-        (λ m. among_more h e (elders rows e) m)
-        (λ a b. not_own_elder (subst (λ y. is_among (elders rows e) y ≡ true) (eqb-true h e a) b)))
+        (λ h. parts_or (own e h) (is_among (elders rows e) h) (λ a b. not_own_elder (subst (λ y. is_among (elders rows e) y ≡ true) (eqb-true h e a) b)))
         table
         (pairs_weaker (λ g m f b a. laws.symm m.item g.item (f.1.0 b a)) table facts)
 
@@ -53,18 +49,18 @@ module _ {V X : Type 0} {after : V → X → V} {Right : V → X → Type 0} {Ok
     abbrev pub committed_value : V
     committed_value = fold after value own_lines
 
-    only_own : (f : ℕ) → is_own_or_elder rows f e ≡ true → f ≡ e
-    only_own f h = kin_childless rows core.frame.grown e f ch h
+    only_own : (f h : ℕ) → own e h ≡ true → is_own_or_elder rows f h ≡ true → f ≡ e
+    only_own f h a b = kin_childless rows core.frame.grown e f h ch (eqb-true h e a) b
 
     -- its lines cross all that another sees
     crosses_seen : (f : ℕ) → (f ≡ e → ⊥) → All (λ x. All (Cross x) (held (is_own_or_elder rows f) table)) own_lines
     crosses_seen f d =
-        let apart : (h : ℕ) → own e h ≡ true → is_own_or_elder rows f h ≡ true → ⊥ = λ h a b. d (only_own f (subst (λ y. is_own_or_elder rows f y ≡ true) (eqb-true h e a) b)) in
+        let apart : (h : ℕ) → own e h ≡ true → is_own_or_elder rows f h ≡ true → ⊥ = λ h a b. d (only_own f h a b) in
         cross_held Cross (own e) (is_own_or_elder rows f) apart table
         (pairs_weaker (λ g m k. (
           λ a b. elim k.0 [
             | inl c ↦ c
-            | inr h ↦ absurd (apart m.holder (eq-eqb m.holder e (only_own m.holder (subst (λ y. is_own_or_elder rows m.holder y ≡ true) (eqb-true g.holder e a) h))) b)
+            | inr h ↦ absurd (apart m.holder (eq-eqb m.holder e (only_own m.holder g.holder a h)) b)
           ],
           λ b a. elim k.0 [
             | inl c ↦ laws.symm g.item m.item c

@@ -186,8 +186,8 @@ module _ (rows : List Row) (g : Grown rows) where
   kin_stands e x s h = elim (kin_cases e x h) [ inl i ↦ subst (λ y. stands rows y ≡ true) (sym i) s | inr k ↦ elder_stands k ]
 
   -- who has no child is no other's elder
-  pub kin_childless : (e f : ℕ) → childless rows e ≡ true → is_own_or_elder rows f e ≡ true → f ≡ e
-  kin_childless e f c h = elim (kin_cases f e h) [ inl i ↦ sym i | inr k ↦ absurd (childless_no_elder c k) ]
+  pub kin_childless : (e f h : ℕ) → childless rows e ≡ true → h ≡ e → is_own_or_elder rows f h ≡ true → f ≡ e
+  kin_childless e f h c i m = elim (kin_cases f h m) [ inl j ↦ sym j ∙ i | inr k ↦ absurd (childless_no_elder (ap (childless rows) i ∙ c) k) ]
 
   up_falls : (n e : ℕ) → Falls (e ∷ up_from n rows e)
   up_falls zero e = (tt, tt)
@@ -261,7 +261,7 @@ is_outside rows e f = not (is_own_or_elder rows f e)
 module _ (rows : List Row) (g : Grown rows) (e : ℕ) where
   -- with an entry that stays its elders stay, where one without children ends ..
   pub closed_others : childless rows e ≡ true → Closed (others e) rows
-  closed_others ch f x k m = not_other e x (λ i. other_not e f k (kin_childless rows g e f ch (subst (λ y. is_own_or_elder rows f y ≡ true) i m)))
+  closed_others ch f x k m = not_other e x (λ i. other_not e f k (kin_childless rows g e f x ch i m))
 
   -- .. and where one ends with all that are inside it
   pub closed_outside : Closed (is_outside rows e) rows

@@ -1,7 +1,7 @@
 -- What stays true of rows, of a table of lines with their answers, of copies, and of what a fair copy comes to.
-use Rattle.std.proofs.Common.{◌≡◌, ℕ, Bool, true, eqb, ◌⊎◌, List, ◌∷◌, fold, filter, ap, ◌∙◌, subst, inl, inr}
+use Rattle.std.proofs.Common.{◌≡◌, ℕ, Bool, true, cond, eqb, ◌⊎◌, List, ◌∷◌, fold, filter, sym, ap, ◌∙◌, subst, inl, inr}
 use Rattle.std.specs.List.{AllByRecursion as All}
-use Rattle.std.proofs.lemmas.Bool.{eqb-true}
+use Rattle.std.proofs.lemmas.Bool.{eqb-true, eqb-false, cond_both}
 use Rattle.std.proofs.ByRecursion.{All-weaker, all_kept_by, kept_by_passes}
 use Rattle.rules.specs.declared.rows.Row.{Row}
 use Rattle.rules.specs.Entries.{stands, is_among, is_own_or_elder}
@@ -69,6 +69,13 @@ module _ {X : Type 0} {OkItem : X → Type 0} {Cross : X → X → Type 0} {rows
   own_rest k f h =
       held_kept k (own f) table
       ∙ held_agree _ _ table (all_of (λ g. and_implied (k g.holder) (own f g.holder) (λ e. ap k (eqb-true g.holder f e) ∙ h)) table)
+
+-- a copy of one entry is another, and is what this one holds
+pub copied_with : {X : Type 0} {Cross : X → X → Type 0} (table : List (Held X)) (copies : ℕ → List X) (n : ℕ) (l : List X) → Same Cross l (held (own n) table)
+    → (f : ℕ) → ((f ≡ n → ⊥) → Same Cross (copies f) (held (own f) table)) → Same Cross (cond (eqb f n) l (copies f)) (held (own f) table)
+copied_with {Cross = Cross} table copies n l here f there =
+    cond_both (eqb f n) l (copies f) (λ xs. Same Cross xs (held (own f) table))
+    (λ t. subst (λ y. Same Cross l (held (own y) table)) (sym (eqb-true f n t)) here) (λ d. there (eqb-false f n d))
 
 -- only the copies of standing entries count
 pub other_copies : {V X : Type 0} {after : V → X → V} {Right : V → X → Type 0} {OkValue : V → Type 0} {OkItem : X → Type 0} {Cross : X → X → Type 0}
