@@ -1,8 +1,8 @@
 -- The register's lines are those of a table of held lines without their answers; so what is done to the one is done to the other,
 -- and what a question finds in the one it finds in the other.
-use Rattle.std.proofs.Common.{◌≡◌, ℕ, Bool, true, false, cond, List, [], ◌∷◌, map, Some, None, filter, Option, refl, sym, ◌∙◌}
+use Rattle.std.proofs.Common.{◌≡◌, ℕ, Bool, false, List, [], ◌∷◌, map, Some, None, filter, sym, ◌∙◌}
 use Rattle.std.specs.List.{AllByRecursion as All}
-use Rattle.std.proofs.lemmas.Bool.{or_parts}
+use Rattle.std.proofs.lemmas.Bool.{or_parts, cond_both}
 use Rattle.rules.specs.declared.lines.Line.{Line}
 use Rattle.rules.specs.Calls.{holder_after, pass_on, some_line, earliest_holder}
 use Rattle.rules.specs.Books.{Copied}
@@ -14,14 +14,11 @@ use Rattle.rules.proofs.Stores.{bare}
 
 -- ---- no line passes a test
 
-none_cond : (b : Bool) (h : ℕ) (o : Option ℕ) → cond b (Some h) o ≡ None → (b ≡ false) × (o ≡ None)
-none_cond true h o e = cc
-none_cond false h o e = (refl, e)
-
 module _ {P : Type 0} (test : Line P → Bool) where
   pub none_earliest : (ls : List (Line P)) → earliest_holder test ls ≡ None → All (λ l. test l ≡ false) ls
   none_earliest [] e = tt
-  none_earliest (l ∷ ls) e = let es = none_cond (test l) l.holder (earliest_holder test ls) e in (es.0, none_earliest ls es.1)
+  none_earliest (l ∷ ls) e =
+      cond_both (test l) (Some l.holder) (earliest_holder test ls) (λ o. o ≡ None → All (λ m. test m ≡ false) (l ∷ ls)) (λ t h. cc) (λ f h. (f, none_earliest ls h)) e
 
   pub none_some : (ls : List (Line P)) → some_line test ls ≡ false → All (λ l. test l ≡ false) ls
   none_some [] e = tt

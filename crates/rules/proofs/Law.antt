@@ -100,12 +100,7 @@ no_rows = record { zero_free = λ s. false≢true s; falls = λ e s. absurd (fal
 
 module _ {V P O : Type 0} (R : Rules V P O) (law : CrossingLaw R) (first : List V) (rows lines : ℕ) where
   lawful : sound_for R first rows lines ≡ true → all_lawful R first ≡ true
-  lawful y =
-      let a = size_within (length first) 4096 in
-      let b = size_within rows 256 in
-      let c = size_within lines 4096 in
-      let d = all_lawful R first in
-      (and_parts c d (and_parts b (c && d) (and_parts a (b && (c && d)) y).1).1).1
+  lawful y = (and_parts (size_within lines 4096) _ (and_parts (size_within rows 256) _ (and_parts (size_within (length first) 4096) _ y).1).1).1
 
   starts : all_lawful R first ≡ true → Upheld R first (set_up R first rows lines) new_book
   starts ok = record {

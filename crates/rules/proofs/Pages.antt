@@ -1,28 +1,22 @@
 -- The pages of a book: whose they are and which copy each has, once one is added, written on or taken out.
-use Rattle.std.proofs.Common.{◌≡◌, ℕ, Bool, true, cond, eqb, List, [], ◌∷◌, ◌++◌, filter, sym, refl, ap, ◌∙◌, inl, inr}
+use Rattle.std.proofs.Common.{◌≡◌, ℕ, Bool, true, false, cond, ◌||◌, eqb, List, [], ◌∷◌, ◌++◌, filter, sym, refl, ap, ◌∙◌}
 use mathlib.Core.Bool.{false≢true}
-use Rattle.std.proofs.lemmas.Bool.{eqb-true, eq-eqb, ne_eqb, cases_eq, cond_both}
+use Rattle.std.proofs.lemmas.Bool.{cond-true, cond-false, or_parts, eqb-true, ne_eqb, cond_both}
 use Rattle.rules.specs.declared.rows.Row.{Row}
 use Rattle.rules.specs.Entries.{stands}
 use Rattle.rules.specs.Books.{Copy, empty, Page, rows_of, copy_of, write_on}
 use Rattle.std.proofs.lemmas.List.{map_push}
 use Rattle.std.proofs.lemmas.Simd.{map-map}
 use Rattle.rules.proofs.Pairs.{filter_map_swap}
-use Rattle.rules.proofs.Kinship.{found_left, rest, stands_own, stands_more, stands_cases}
+use Rattle.rules.proofs.Kinship.{found_left, rest}
 
 module _ {P O : Type 0} where
   abbrev row_of : Page P O → Row
   row_of g = record { entry = g.entry; parent = g.parent }
 
-  copy_own : (g : Page P O) (pages : List (Page P O)) (e : ℕ) → g.entry ≡ e → copy_of (g ∷ pages) e ≡ g.copy
-  copy_own g pages e h = rw (eq-eqb g.entry e h)
-
-  copy_other : (g : Page P O) (pages : List (Page P O)) (e : ℕ) → (g.entry ≡ e → ⊥) → copy_of (g ∷ pages) e ≡ copy_of pages e
-  copy_other g pages e h = rw (ne_eqb g.entry e h)
-
-  pub copy_none : (pages : List (Page P O)) (e : ℕ) → (stands (rows_of pages) e ≡ true → ⊥) → copy_of pages e ≡ empty
+  pub copy_none : (pages : List (Page P O)) (e : ℕ) → stands (rows_of pages) e ≡ false → copy_of pages e ≡ empty
   copy_none [] e d = refl
-  copy_none (g ∷ pages) e d = copy_other g pages e (λ i. d (stands_own (row_of g) (rows_of pages) e i)) ∙ copy_none pages e (λ s. d (stands_more (row_of g) (rows_of pages) e s))
+  copy_none (g ∷ pages) e d = let ds = or_parts (eqb g.entry e) (stands (rows_of pages) e) d in cond-false _ _ _ ds.0 ∙ copy_none pages e ds.1
 
   -- an empty page is added
   pub rows_pushed : (pages : List (Page P O)) (n q : ℕ) → rows_of (pages ++ (record { entry = n; parent = q; copy = empty } ∷ [])) ≡ rows_of pages ++ (record { entry = n; parent = q } ∷ [])
@@ -41,20 +35,16 @@ module _ {P O : Type 0} where
 
   pub copy_written : (e : ℕ) (more : Copy P O → Copy P O) (pages : List (Page P O)) → stands (rows_of pages) e ≡ true → copy_of (write_on e more pages) e ≡ more (copy_of pages e)
   copy_written e more [] s = absurd (false≢true s)
-  copy_written e more (g ∷ pages) s = elim (cases_eq g.entry e) [
-    | inl i ↦ copy_own (written e more g) (write_on e more pages) e i ∙ ap (λ b. cond b (more g.copy) g.copy) (eq-eqb g.entry e i) ∙ ap more (sym (copy_own g pages e i))
-    | inr d ↦ elim (stands_cases (row_of g) (rows_of pages) e s) [
-      | inl i ↦ absurd (d i)
-      | inr t ↦ copy_other (written e more g) (write_on e more pages) e d ∙ copy_written e more pages t ∙ ap more (sym (copy_other g pages e d))
-    ]
-  ]
+  copy_written e more (g ∷ pages) s =
+      elim (eqb g.entry e) as (λ b. (b || stands (rows_of pages) e) ≡ true → cond b (cond b (more g.copy) g.copy) (copy_of (write_on e more pages) e) ≡ more (cond b g.copy (copy_of pages e)))
+      [ true ↦ λ t. refl | false ↦ λ t. copy_written e more pages t ] s
 
   pub copy_unwritten : (e : ℕ) (more : Copy P O → Copy P O) (pages : List (Page P O)) (x : ℕ) → (x ≡ e → ⊥) → copy_of (write_on e more pages) x ≡ copy_of pages x
   copy_unwritten e more [] x ne = refl
-  copy_unwritten e more (g ∷ pages) x ne = elim (cases_eq g.entry x) [
-    | inl i ↦ copy_own (written e more g) (write_on e more pages) x i ∙ ap (λ b. cond b (more g.copy) g.copy) (ne_eqb g.entry e (λ j. ne (sym i ∙ j))) ∙ sym (copy_own g pages x i)
-    | inr d ↦ copy_other (written e more g) (write_on e more pages) x d ∙ copy_unwritten e more pages x ne ∙ sym (copy_other g pages x d)
-  ]
+  copy_unwritten e more (g ∷ pages) x ne =
+      cond_both (eqb g.entry x) (cond (eqb g.entry e) (more g.copy) g.copy) (copy_of (write_on e more pages) x) (λ c. c ≡ copy_of (g ∷ pages) x)
+      (λ t. cond-false _ _ _ (ne_eqb g.entry e (λ j. ne (sym (eqb-true g.entry x t) ∙ j))) ∙ sym (cond-true _ _ _ t))
+      (λ f. copy_unwritten e more pages x ne ∙ sym (cond-false _ _ _ f))
 
   -- only the pages of entries that pass the test k are left
   module _ (k : ℕ → Bool) where

@@ -1,5 +1,5 @@
 -- What holds of each element of a list, and of each two, the earlier first.
-use Rattle.std.proofs.Common.{◌≡◌, Bool, true, false, cond, List, [], ◌∷◌, ◌++◌, map, filter, refl, ap, ◌∙◌}
+use Rattle.std.proofs.Common.{◌≡◌, Bool, true, List, [], ◌∷◌, ◌++◌, map, filter, refl, ap, ◌∙◌}
 use Rattle.std.proofs.lemmas.Bool.{cond_both, cond-true, cond-false}
 use Rattle.std.specs.List.{AllByRecursion as All}
 use Rattle.std.proofs.ByRecursion.{All-weaker, All-push, all_kept_by, All-map}
@@ -30,13 +30,9 @@ pub pairs_push : {G : Type 0} (Q : G → G → Type 0) (gs : List G) (m : G) →
 pairs_push Q [] m p a = (tt, tt)
 pairs_push Q (g ∷ gs) m p a = (All-push _ gs m p.0 a.0, pairs_push _ gs m p.1 a.1)
 
-pairs_keep : {G : Type 0} (Q : G → G → Type 0) (b : Bool) (g : G) (gs : List G) → All (Q g) gs → Pairs Q gs → Pairs Q (cond b (g ∷ gs) gs)
-pairs_keep Q true g gs p ps = (p, ps)
-pairs_keep Q false g gs p ps = ps
-
 pub pairs_kept : {G : Type 0} (Q : G → G → Type 0) (t : G → Bool) (gs : List G) → Pairs Q gs → Pairs Q (filter t gs)
 pairs_kept Q t [] p = tt
-pairs_kept Q t (g ∷ gs) p = pairs_keep _ (t g) g (filter t gs) (all_kept_by t _ gs p.0) (pairs_kept _ t gs p.1)
+pairs_kept Q t (g ∷ gs) p = let on = pairs_kept Q t gs p.1 in cond_both (t g) (g ∷ filter t gs) (filter t gs) (Pairs Q) (λ y. (all_kept_by t _ gs p.0, on)) (λ n. on)
 
 -- to filter what a function gives is to filter by what it gives
 pub filter_map_swap : {F G : Type 0} (f : F → G) (t : G → Bool) (xs : List F) → filter t (map f xs) ≡ map f (filter (λ x. t (f x)) xs)
@@ -46,13 +42,9 @@ filter_map_swap f t (x ∷ xs) =
     (λ y. cond-true _ _ _ y ∙ ap (λ l. f x ∷ l) (filter_map_swap f t xs)) (λ n. cond-false _ _ _ n ∙ filter_map_swap f t xs)
 
 -- what is kept passes the test
-pub all_passed_cond : {G : Type 0} (P : G → Type 0) (b : Bool) (g : G) (gs : List G) → (b ≡ true → P g) → All P gs → All P (cond b (g ∷ gs) gs)
-all_passed_cond P true g gs p ps = (p refl, ps)
-all_passed_cond P false g gs p ps = ps
-
 pub all_passed : {G : Type 0} (P : G → Type 0) (t : G → Bool) (gs : List G) → All (λ g. t g ≡ true → P g) gs → All P (filter t gs)
 all_passed P t [] p = tt
-all_passed P t (g ∷ gs) p = all_passed_cond _ (t g) g (filter t gs) p.0 (all_passed _ t gs p.1)
+all_passed P t (g ∷ gs) p = let on = all_passed P t gs p.1 in cond_both (t g) (g ∷ filter t gs) (filter t gs) (All P) (λ y. (p.0 y, on)) (λ n. on)
 
 pub pairs_map : {F G : Type 0} (Q : G → G → Type 0) (f : F → G) (gs : List F) → Pairs (λ g m. Q (f g) (f m)) gs → Pairs Q (map f gs)
 pairs_map Q f [] p = tt

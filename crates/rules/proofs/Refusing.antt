@@ -1,6 +1,7 @@
 -- What every refusal says: each question asks what it means, and so the first no is the first question that the call fails.
-use Rattle.std.proofs.Common.{◌≡◌, ℕ, ◌<◌, ◌≤◌, Bool, true, not, ◌&&◌, eqb, List, [], ◌∷◌, length, Ok, Err, Decides, refl, ap, inl, inr, arith}
-use Rattle.std.proofs.lemmas.Bool.{both_ways, false_from_ne_true, not_from_false, eqb-true, eqb-false, eq-eqb, ne_eqb, ltb-false, le-ltb, and_parts, and_from, or_parts, or_from, not-true}
+use Rattle.std.proofs.Common.{◌≡◌, ℕ, ◌<◌, ◌≤◌, true, eqb, List, [], ◌∷◌, length, Ok, Err, Decides, refl, ap, inl, inr, arith}
+use Rattle.std.proofs.lemmas.Bool.Decides.{Decides-like, Decides-and, Decides-or, Decides-not, Decides-eqb}
+use Rattle.std.proofs.lemmas.Bool.{both_ways, false_from_ne_true, eqb-false, ne_eqb, ltb-false, le-ltb, or_parts, or_from}
 use Rattle.cells.specs.Kinds.{Rules, CrossingLaw}
 use Rattle.rules.specs.declared.lines.Line.{Line}
 use Rattle.rules.specs.declared.calls.Call.{Call}
@@ -9,67 +10,36 @@ use Rattle.rules.specs.declared.calls.Reply.{Reply}
 use Rattle.rules.specs.declared.refusals.Refusal.{Refusal}
 use Rattle.rules.specs.declared.refusals.Refusal.TheVariants.{Unsound, NotStanding, HasChild, NoSuchCell, UnlawfulPosting, InTheWay, HeldByElder, NoFreeRow, NoFreeLine, NoNumberLeft}
 use Rattle.rules.specs.Refusals.{number_of, holder_of}
-use Rattle.rules.specs.Entries.{stands, Elder, elders, is_among, is_own_or_elder}
+use Rattle.rules.specs.Entries.{stands, Elder, elders, is_among}
 use Rattle.rules.specs.States.{State}
-use Rattle.rules.specs.Calls.{some_line, stops_posting, stops_publishing, ask, ask_holder, first_no, questions, taken, step}
+use Rattle.rules.specs.Calls.{stops_posting, stops_publishing, ask, ask_holder, first_no, questions, taken, step}
 use Rattle.rules.specs.TurnedAway.{StopsPosting, StopsPublishing, Fails, AnswersRightly, RefusalLaw}
 use Rattle.rules.proofs.FirstNo.{TellEach, ask_tells, holder_tells, first_says, rise, IsSaid, first_least, none_said}
 use Rattle.rules.proofs.Outcomes.{refused_by, taken_by, effect_refused, leaves_by}
-use Rattle.rules.proofs.EarliestLines.{some_among, among_some, earliest_is, earliest_found}
+use Rattle.rules.proofs.EarliestLines.{some_is, earliest_is, earliest_found}
 use Rattle.rules.proofs.Law.{fair_copy_law}
 
 -- ---- questions 6 and 7
 
 module _ {V P O : Type 0} (R : Rules V P O) (s : State V P) (elders_are : (e x : ℕ) → Decides (is_among (elders s.rows e) x) (Elder s.rows x e)) where
+  crosses_is : (p o : P) → Decides (R.crosses p o) (R.crosses p o ≡ true)
+  crosses_is p o = (λ h. h, λ h. h)
+
   stops_posting_is : (e c : ℕ) (p : P) (l : Line P) → Decides (stops_posting R s e c p l) (StopsPosting R s e c p l)
   stops_posting_is e c p l =
-      let ours = is_own_or_elder s.rows e l.holder in
-      let crossed = R.crosses p l.posting in (
-        λ h. (
-            let hs = and_parts (eqb l.cell c) (not ours && not crossed) h in
-            let ks = and_parts (not ours) (not crossed) hs.1 in
-            let apart = or_parts (eqb l.holder e) (is_among (elders s.rows e) l.holder) (not-true ours ks.0) in
-            record {
-              on_cell = eqb-true l.cell c hs.0;
-              not_own = eqb-false l.holder e apart.0;
-              not_elders = λ k. both_ways _ apart.1 ((elders_are e l.holder).1 k);
-              not_crossed = not-true crossed ks.1;
-            }
-            ),
-        λ w. and_from (eqb l.cell c) (not ours && not crossed) (eq-eqb l.cell c w.on_cell)
-            (and_from (not ours) (not crossed)
-            (not_from_false ours (or_from (eqb l.holder e) (is_among (elders s.rows e) l.holder) (ne_eqb l.holder e w.not_own) (false_from_ne_true _ (λ k. w.not_elders ((elders_are e l.holder).0 k)))))
-            (not_from_false crossed w.not_crossed)),
-      )
+      Decides-like _
+      (λ w. record { on_cell = w.0; not_own = λ i. w.1.0 (inl i); not_elders = λ k. w.1.0 (inr k); not_crossed = false_from_ne_true _ w.1.1 })
+      (λ w. (w.on_cell, ((λ o. elim o [ inl i ↦ w.not_own i | inr k ↦ w.not_elders k ]), both_ways _ w.not_crossed)))
+      (Decides-and _ _ (Decides-eqb l.cell c)
+      (Decides-and _ _ (Decides-not _ (Decides-or _ _ (Decides-eqb l.holder e) (elders_are e l.holder))) (Decides-not _ (crosses_is p l.posting))))
 
   stops_publishing_is : (e : ℕ) (m : Line P) → Decides (stops_publishing R s e m) (StopsPublishing R s e m)
   stops_publishing_is e m =
-      let clashes : Line P → Bool = λ l. eqb l.holder e && (eqb l.cell m.cell && not (R.crosses l.posting m.posting)) in
-      let elders_line = is_among (elders s.rows e) m.holder in (
-        λ h. (
-            let hs = and_parts elders_line (some_line clashes s.lines) h in
-            let found = some_among clashes s.lines hs.1 in
-            let l = found.0 in
-            let ks = and_parts (eqb l.holder e) (eqb l.cell m.cell && not (R.crosses l.posting m.posting)) found.2 in
-            let js = and_parts (eqb l.cell m.cell) (not (R.crosses l.posting m.posting)) ks.1 in
-            record {
-              elders = (elders_are e m.holder).0 hs.0;
-              line = l;
-              stands_too = found.1;
-              own = eqb-true l.holder e ks.0;
-              same_cell = eqb-true l.cell m.cell js.0;
-              not_crossed = not-true (R.crosses l.posting m.posting) js.1;
-            }
-            ),
-        λ w. (
-            let l = w.line in
-            and_from elders_line (some_line clashes s.lines) ((elders_are e m.holder).1 w.elders)
-            (among_some clashes s.lines l w.stands_too
-            (and_from (eqb l.holder e) (eqb l.cell m.cell && not (R.crosses l.posting m.posting)) (eq-eqb l.holder e w.own)
-            (and_from (eqb l.cell m.cell) (not (R.crosses l.posting m.posting)) (eq-eqb l.cell m.cell w.same_cell)
-            (not_from_false (R.crosses l.posting m.posting) w.not_crossed))))
-            ),
-      )
+      Decides-like _
+      (λ w. record { elders = w.0; line = w.1.0; stands_too = w.1.1; own = w.1.2.0; same_cell = w.1.2.1.0; not_crossed = false_from_ne_true _ w.1.2.1.1 })
+      (λ w. (w.elders, (w.line, w.stands_too, (w.own, (w.same_cell, both_ways _ w.not_crossed)))))
+      (Decides-and _ _ (elders_are e m.holder)
+      (some_is _ _ (λ l. Decides-and _ _ (Decides-eqb l.holder e) (Decides-and _ _ (Decides-eqb l.cell m.cell) (Decides-not _ (crosses_is l.posting m.posting)))) s.lines))
 
   -- ---- each question says what it asks
 

@@ -2,7 +2,7 @@
 use Rattle.std.proofs.Common.{◌≡◌, ℕ, ◌+◌, ◌<◌, Bool, true, false, cond, not, ◌&&◌, ◌||◌, eqb, ◌⊎◌, List, [], ◌∷◌, ◌++◌, map, None, fold, filter, sym, refl, ap, ◌∙◌, subst, inl, inr, arith}
 use mathlib.Core.Bool.{false≢true}
 use Rattle.std.specs.List.{AllByRecursion as All}
-use Rattle.std.proofs.lemmas.Bool.{eqb-true, eqb-false, eq-eqb, ne_eqb, or_cases, cases_eq, and_cases, not-false, both_ways}
+use Rattle.std.proofs.lemmas.Bool.{cond_both, false_from_ne_true, eqb-true, eqb-false, or_cases, and_cases, not-false, both_ways}
 use Rattle.std.proofs.ByRecursion.{All-weaker}
 use Rattle.std.proofs.lemmas.List.{map_push}
 use Rattle.cells.specs.Kinds.{Rules, CrossingLaw}
@@ -67,10 +67,9 @@ module _ {V P O : Type 0} (R : Rules V P O) (law : CrossingLaw R) (first : List 
         rows_are = rows_pushed b.pages n q ∙ ap (λ rs. rs ++ (record { entry = n; parent = q } ∷ [])) up.rows_are;
         numbered = λ e st. elim (joined_cases s.rows n q up.numbered e st) [ inl i ↦ omega arith | inr t ↦ (let l : e < n = up.numbered e t in omega arith) ];
         core = other_copies (lines_at (with_begun b n q))
-            (λ e st. elim (cases_eq e n) [
-              | inl i ↦ ap (λ t. cond t [] (lines_at b e)) (eq-eqb e n i) ∙ sym (ap lines_of (copy_pushed b.pages n q e ∙ ap (copy_of b.pages) i ∙ copy_none b.pages n fresh))
-              | inr d ↦ ap (λ t. cond t [] (lines_at b e)) (ne_eqb e n d) ∙ sym (ap lines_of (copy_pushed b.pages n q e))
-            ])
+            (λ e st. cond_both (eqb e n) [] (lines_at b e) (λ l. l ≡ lines_at (with_begun b n q) e)
+            (λ t. sym (ap lines_of (copy_pushed b.pages n q e ∙ ap (copy_of b.pages) (eqb-true e n t) ∙ copy_none b.pages n (false_from_ne_true _ fresh))))
+            (λ d. sym (ap lines_of (copy_pushed b.pages n q e))))
             (began up.core n q up.numbered (omega arith) parent_ok);
       }
 
@@ -112,12 +111,9 @@ module _ {V P O : Type 0} (R : Rules V P O) (law : CrossingLaw R) (first : List 
         rows_are = rows_written e (λ copy. then_line copy line) b.pages ∙ up.rows_are;
         numbered = up.numbered;
         core = other_copies (lines_at (with_line b e line))
-            (λ f sf. elim (cases_eq f e) [
-              | inl i ↦ ap (λ t. cond t (lines_at b e ++ (line ∷ [])) (lines_at b f)) (eq-eqb f e i)
-                  ∙ sym (ap lines_of (ap (copy_of (with_line b e line).pages) i ∙ copy_written e (λ copy. then_line copy line) b.pages (in_book e st)))
-              | inr d ↦ ap (λ t. cond t (lines_at b e ++ (line ∷ [])) (lines_at b f)) (ne_eqb f e d)
-                  ∙ sym (ap lines_of (copy_unwritten e (λ copy. then_line copy line) b.pages f d))
-            ])
+            (λ f sf. cond_both (eqb f e) (lines_at b e ++ (line ∷ [])) (lines_at b f) (λ l. l ≡ lines_at (with_line b e line) f)
+            (λ t. sym (ap lines_of (ap (copy_of (with_line b e line).pages) (eqb-true f e t) ∙ copy_written e (λ copy. then_line copy line) b.pages (in_book e st))))
+            (λ d. sym (ap lines_of (copy_unwritten e (λ copy. then_line copy line) b.pages f (eqb-false f e d)))))
             (posted (laws R law) up.core e line st (ask_yes (childless s.rows e) HasChild ys.1.0) (ask_yes (R.posting_lawful p) UnlawfulPosting ys.1.1.1.0)
             (ap (of_value (λ w. R.answer w p)) (seen_at e c ∙ is))
             (none_in_way e c p (R.answer v p) (ask_holder_yes (earliest_holder (stops_posting R s e c p) s.lines) InTheWay ys.1.1.1.1.0)));
@@ -191,13 +187,9 @@ module _ {V P O : Type 0} (R : Rules V P O) (law : CrossingLaw R) (first : List 
         rows_are = rows_written q more left ∙ rows_left (others e) b.pages ∙ ap (without e) up.rows_are;
         numbered = λ f sf. up.numbered f (stood (others e) s.rows f sf).0;
         core = other_copies (lines_at (with_block b e q))
-            (λ f sf. elim (cases_eq f q) [
-              | inl i ↦ ap (λ t. cond t (lines_at b q ++ lines_at b e) (lines_at b f)) (eq-eqb f q i)
-                  ∙ ap (λ copy. lines_of copy ++ lines_at b e) (sym (copy_left (others e) b.pages q (not_other e q ne)))
-                  ∙ sym (ap lines_of (ap (copy_of (with_block b e q).pages) i ∙ copy_written q more left q_left))
-              | inr d ↦ ap (λ t. cond t (lines_at b q ++ lines_at b e) (lines_at b f)) (ne_eqb f q d)
-                  ∙ sym (ap lines_of (copy_unwritten q more left f d ∙ copy_left (others e) b.pages f (stood (others e) s.rows f sf).1))
-            ])
+            (λ f sf. cond_both (eqb f q) (lines_at b q ++ lines_at b e) (lines_at b f) (λ l. l ≡ lines_at (with_block b e q) f)
+            (λ t. ap (λ copy. lines_of copy ++ lines_at b e) (sym (copy_left (others e) b.pages q (not_other e q ne))) ∙ sym (ap lines_of (ap (copy_of (with_block b e q).pages) (eqb-true f q t) ∙ copy_written q more left q_left)))
+            (λ d. sym (ap lines_of (copy_unwritten q more left f (eqb-false f q d) ∙ copy_left (others e) b.pages f (stood (others e) s.rows f sf).1))))
             (passed (laws R law) up.core e q st ch (elders_inner s.rows grown e inner) sq ne);
       }
 

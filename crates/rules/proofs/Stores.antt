@@ -50,18 +50,18 @@ module _ {V P O : Type 0} (R : Rules V P O) where
   -- changes that agree on lawful values
   change_agree : (f g : V → V) → ((v : V) → R.value_lawful v ≡ true → f v ≡ g v) → (vs : List V) (c : ℕ) → all_lawful R vs ≡ true → change_at f vs c ≡ change_at g vs c
   change_agree f g h [] c o = refl
-  change_agree f g h (v ∷ vs) zero o = ap (λ w. w ∷ vs) (h v (and_parts (R.value_lawful v) (all_lawful R vs) o).0)
-  change_agree f g h (v ∷ vs) (suc c) o = ap (λ ws. v ∷ ws) (change_agree f g h vs c (and_parts (R.value_lawful v) (all_lawful R vs) o).1)
+  change_agree f g h (v ∷ vs) zero o = ap (λ w. w ∷ vs) (h v (and_parts _ _ o).0)
+  change_agree f g h (v ∷ vs) (suc c) o = ap (λ ws. v ∷ ws) (change_agree f g h vs c (and_parts _ _ o).1)
 
   read_agree : {W : Type 0} (f g : V → W) → ((v : V) → R.value_lawful v ≡ true → f v ≡ g v) → (vs : List V) (c : ℕ) → all_lawful R vs ≡ true → of_value f (value_at vs c) ≡ of_value g (value_at vs c)
   read_agree f g h [] c o = refl
-  read_agree f g h (v ∷ vs) zero o = ap (λ w. Some w) (h v (and_parts (R.value_lawful v) (all_lawful R vs) o).0)
-  read_agree f g h (v ∷ vs) (suc c) o = read_agree f g h vs c (and_parts (R.value_lawful v) (all_lawful R vs) o).1
+  read_agree f g h (v ∷ vs) zero o = ap (λ w. Some w) (h v (and_parts _ _ o).0)
+  read_agree f g h (v ∷ vs) (suc c) o = read_agree f g h vs c (and_parts _ _ o).1
 
   change_lawful : (f : V → V) → ((v : V) → R.value_lawful v ≡ true → R.value_lawful (f v) ≡ true) → (vs : List V) (c : ℕ) → all_lawful R vs ≡ true → all_lawful R (change_at f vs c) ≡ true
   change_lawful f h [] c o = o
-  change_lawful f h (v ∷ vs) zero o = let os = and_parts (R.value_lawful v) (all_lawful R vs) o in and_from (R.value_lawful (f v)) (all_lawful R vs) (h v os.0) os.1
-  change_lawful f h (v ∷ vs) (suc c) o = let os = and_parts (R.value_lawful v) (all_lawful R vs) o in and_from (R.value_lawful v) (all_lawful R (change_at f vs c)) os.0 (change_lawful f h vs c os.1)
+  change_lawful f h (v ∷ vs) zero o = let os = and_parts _ _ o in and_from _ _ (h v os.0) os.1
+  change_lawful f h (v ∷ vs) (suc c) o = let os = and_parts _ _ o in and_from _ _ os.0 (change_lawful f h vs c os.1)
 
   abbrev pub LawfulValues : List V → Type 0
   LawfulValues vs = all_lawful R vs ≡ true
@@ -130,13 +130,13 @@ bare g = record { holder = g.holder; cell = g.item.cell; posting = g.item.postin
 
 module _ {V P O : Type 0} (R : Rules V P O) where
   -- what is stored of the lines that an entry holds
-  commit_cond : (b : Bool) (g : Held (Copied P O)) (vs : List V) (ls : List (Line P)) (xs : List (Copied P O)) → ((ws : List V) → commit R ws ls ≡ fold (post_line R) ws xs) → commit R vs (cond b (bare g ∷ ls) ls) ≡ fold (post_line R) vs (cond b (g.item ∷ xs) xs)
-  commit_cond true g vs ls xs f = f (post_line R vs g.item)
-  commit_cond false g vs ls xs f = f vs
-
   pub commit_is : (e : ℕ) (gs : List (Held (Copied P O))) (vs : List V) → commit R vs (held_by e (map bare gs)) ≡ fold (post_line R) vs (held (own e) gs)
   commit_is e [] vs = refl
-  commit_is e (g ∷ gs) vs = commit_cond (own e g.holder) g vs (held_by e (map bare gs)) (held (own e) gs) (commit_is e gs)
+  commit_is e (g ∷ gs) vs =
+      let ls = held_by e (map bare gs) in
+      let xs = held (own e) gs in
+      elim (own e g.holder) as (λ b. commit R vs (cond b (bare g ∷ ls) ls) ≡ fold (post_line R) vs (cond b (g.item ∷ xs) xs))
+      [ true ↦ commit_is e gs (post_line R vs g.item) | false ↦ commit_is e gs vs ]
 
   -- what is seen of the lines whose holders pass a test
   abbrev on : (ℕ → Bool) → ℕ → Line P → Bool
