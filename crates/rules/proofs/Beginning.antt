@@ -1,6 +1,5 @@
 -- A begin: a new entry stands, with nothing held and nothing copied.
 use Rattle.std.proofs.Common.{◌≡◌, ℕ, ◌<◌, true, cond, ◌||◌, eqb, ◌⊎◌, List, [], ◌∷◌, sym, ap, ◌∙◌, subst, inl, inr, arith}
-use Rattle.std.specs.List.{AllByRecursion as All}
 use Rattle.std.proofs.lemmas.Bool.{ne_eqb}
 use Rattle.std.proofs.ByRecursion.{All-weaker}
 use Rattle.rules.specs.declared.rows.Row.{Row}
@@ -28,8 +27,8 @@ module _ {V X : Type 0} {after : V → X → V} {Right : V → X → Type 0} {Ok
     same_kin h s x = ap (λ l. is_among (h ∷ l) x) (elders_joined rows n q above core.frame.grown h s)
 
     -- no line is the new entry's own
-    none_own : (gs : List (Held X)) → All (λ g. stands rows g.holder ≡ true) gs → held (own n) gs ≡ []
-    none_own gs a = held_agree (own n) (is_among []) gs (All-weaker _ _ (λ g s. ne_eqb g.holder n (older g.holder s)) gs a) ∙ held_none gs
+    none_own : held (own n) table ≡ []
+    none_own = held_agree (own n) (is_among []) table (All-weaker _ _ (λ g s. ne_eqb g.holder n (older g.holder s)) table core.frame.holders) ∙ held_none table
 
     new_sees : (es : List ℕ) → elders grown_rows n ≡ es → held (is_own_or_elder grown_rows n) table ≡ held (is_among es) table
     new_sees es h =
@@ -53,7 +52,7 @@ module _ {V X : Type 0} {after : V → X → V} {Right : V → X → Type 0} {Ok
         | inl i ↦ subst (λ x. EachInTurn after Right value (held (is_own_or_elder grown_rows x) table)) (sym i) (sees_by under)
         | inr t ↦ subst (λ l. EachInTurn after Right value (held (is_among (e ∷ l)) table)) (sym (elders_joined rows n q above core.frame.grown e t)) (core.sees e t)
       ];
-      copied = λ e s. copied_with table copies n [] (subst (Same Cross []) (sym (none_own table core.frame.holders)) same_nil)
+      copied = λ e s. copied_with table copies n [] (subst (Same Cross []) (sym none_own) same_nil)
           e (λ d. core.copied e (elim (joined_cases rows n q above e s) [ inl i ↦ absurd (d i) | inr t ↦ t ]));
       fair_right = core.fair_right;
       fair_value = core.fair_value;

@@ -1,10 +1,9 @@
 -- Who is whose elder, by what is looked up of the standing entries: the order of their rows makes no difference.
-use Rattle.std.proofs.Common.{◌≡◌, ℕ, zero, suc, ◌<◌, ◌≤◌, Bool, true, cond, not, ◌&&◌, ◌||◌, eqb, ◌⊎◌, List, [], ◌∷◌, ◌++◌, Decides, filter, sym, refl, ap, ◌∙◌, subst, inl, inr, arith}
-use mathlib.Core.Bool.{false≢true}
+use Rattle.std.proofs.Common.{◌≡◌, ℕ, zero, suc, ◌<◌, ◌≤◌, Bool, true, false, cond, not, ◌&&◌, ◌||◌, eqb, ◌⊎◌, List, [], ◌∷◌, ◌++◌, Decides, filter, sym, refl, ap, ◌∙◌, subst, inl, inr, arith}
 use Rattle.std.proofs.lemmas.List.Recursion.{same_from_clauses, or_push, found_push_other}
 use Rattle.std.specs.List.{list_any}
 use Rattle.std.proofs.lemmas.Map.Views.{any-filter_same}
-use Rattle.std.proofs.lemmas.Bool.{cond_both, cond-false, eqb-true, eqb-false, eq-eqb, ne_eqb, or_cases, or_left, or_right, cases_Bool, cases_eq, and_parts, and_from, not-true, not_from_false, false_from_ne_true, both_ways}
+use Rattle.std.proofs.lemmas.Bool.{cond_both, cond-true, cond-false, eqb-true, eqb-false, eq-eqb, ne_eqb, or_cases, or_left, or_right, cases_Bool, cases_eq, and_parts, and_from, not-true, not_from_false, false_from_ne_true, both_ways}
 use Rattle.rules.specs.declared.rows.Row.{Row}
 use Rattle.rules.specs.Entries.{stands, childless, parent_of, Elder, its_parent, of_its_parent, up_from, elders, is_among, is_own_or_elder}
 use Rattle.rules.proofs.Numbers.{among_self, among_more, among_cases, all_from_among, Falls}
@@ -24,10 +23,10 @@ pub stands_cases : (r : Row) (rows : List Row) (e : ℕ) → stands (r ∷ rows)
 stands_cases r rows e h = elim (or_cases (eqb r.entry e) (stands rows e) h) [ inl k ↦ inl (eqb-true r.entry e k) | inr k ↦ inr k ]
 
 pub parent_own : (r : Row) (rows : List Row) (e : ℕ) → r.entry ≡ e → parent_of (r ∷ rows) e ≡ r.parent
-parent_own r rows e h = rw (eq-eqb r.entry e h)
+parent_own r rows e h = cond-true _ _ _ (eq-eqb r.entry e h)
 
 pub parent_other : (r : Row) (rows : List Row) (e : ℕ) → (r.entry ≡ e → ⊥) → parent_of (r ∷ rows) e ≡ parent_of rows e
-parent_other r rows e h = rw (ne_eqb r.entry e h)
+parent_other r rows e h = cond-false _ _ _ (ne_eqb r.entry e h)
 
 -- who does not stand has no parent
 pub parent_none : (rows : List Row) (e : ℕ) → (stands rows e ≡ true → ⊥) → parent_of rows e ≡ 0
@@ -49,13 +48,11 @@ found_left F is value step k passes (g ∷ gs) =
 
 -- who has no standing child is no one's parent
 pub no_child : (rows : List Row) (e f : ℕ) → childless rows e ≡ true → stands rows f ≡ true → parent_of rows f ≡ e → ⊥
-no_child [] e f c s i = absurd (false≢true s)
+no_child [] e f c s i = cc
 no_child (r ∷ rows) e f c s i =
     let cs = and_parts (not (eqb r.parent e)) (childless rows e) c in
-    elim (cases_eq r.entry f) [
-      | inl o ↦ eqb-false r.parent e (not-true (eqb r.parent e) cs.0) (sym (parent_own r rows f o) ∙ i)
-      | inr d ↦ elim (stands_cases r rows f s) [ inl o ↦ d o | inr t ↦ no_child rows e f cs.1 t (sym (parent_other r rows f d) ∙ i) ]
-    ]
+    elim (eqb r.entry f) as (λ b. (b || stands rows f) ≡ true → cond b r.parent (parent_of rows f) ≡ e → ⊥)
+    [ true ↦ λ t. eqb-false r.parent e (not-true _ cs.0) | false ↦ λ t. no_child rows e f cs.1 t ] s i
 
 -- ---- rows as begins make them
 
@@ -70,21 +67,21 @@ pub record Grown (rows : List Row) : Type 0 where
 -- no parent: the way up ends
 up_top : (rows : List Row) (n e : ℕ) → parent_of rows e ≡ 0 → up_from n rows e ≡ []
 up_top rows zero e h = refl
-up_top rows (suc n) e h = ap (λ b. cond b [] (parent_of rows e ∷ up_from n rows (parent_of rows e))) (eq-eqb (parent_of rows e) 0 h)
+up_top rows (suc n) e h = cond-true _ _ _ (eq-eqb (parent_of rows e) 0 h)
 
 up_inner : (rows : List Row) (n e : ℕ) → (parent_of rows e ≡ 0 → ⊥) → up_from (suc n) rows e ≡ parent_of rows e ∷ up_from n rows (parent_of rows e)
-up_inner rows n e d = ap (λ b. cond b [] (parent_of rows e ∷ up_from n rows (parent_of rows e))) (ne_eqb (parent_of rows e) 0 d)
+up_inner rows n e d = cond-false _ _ _ (ne_eqb (parent_of rows e) 0 d)
 
 pub elders_top : (rows : List Row) (e : ℕ) → parent_of rows e ≡ 0 → elders rows e ≡ []
 elders_top rows e h = up_top rows e e h
 
 -- whom the list names is an elder
 up_elder : (rows : List Row) (n e x : ℕ) → is_among (up_from n rows e) x ≡ true → Elder rows x e
-up_elder rows zero e x h = absurd (false≢true h)
+up_elder rows zero e x h = cc
 up_elder rows (suc n) e x h =
     let q = parent_of rows e in
     cond_both (eqb q 0) [] (q ∷ up_from n rows q) (λ l. is_among l x ≡ true → Elder rows x e)
-    (λ z m. absurd (false≢true m))
+    (λ z m. cc)
     (λ d m. elim (among_cases x q (up_from n rows q) m) [ inl i ↦ its_parent (sym i) (λ z. eqb-false q 0 d (sym i ∙ z)) | inr k ↦ of_its_parent (up_elder rows n q x k) ])
     h
 

@@ -1,7 +1,6 @@
 -- The fair-copy law, over every history from set-up on.
 use Rattle.std.proofs.Common.{◌≡◌, ℕ, Bool, true, false, cond, ◌&&◌, eqb, List, [], ◌∷◌, ◌++◌, length, Some, None, Err, fold, Option, sym, refl, ap, ◌∙◌, subst, inl, inr}
-use mathlib.Core.Bool.{false≢true}
-use Rattle.std.proofs.lemmas.Bool.{cases_Bool, and_parts}
+use Rattle.std.proofs.lemmas.Bool.{cond_both, cases_Bool, and_parts}
 use Rattle.cells.specs.Kinds.{Rules, CrossingLaw}
 use Rattle.rules.specs.declared.calls.Call.{Call}
 use Rattle.rules.specs.declared.calls.Call.TheVariants.{Begin, Post, Keep, Publish, Abandon, Value}
@@ -31,10 +30,6 @@ module _ {P O : Type 0} where
   if_any_fair None more b same = refl
   if_any_fair (Some x) more b same = same x
 
-  cond_fair : (t : Bool) (c b : Book P O) → c.fair ≡ b.fair → (cond t c b).fair ≡ b.fair
-  cond_fair true c b same = same
-  cond_fair false c b same = refl
-
   publish_fair : (t : Bool) (b : Book P O) (e : ℕ) → (cond t (with_fair_block b e) b).fair ≡ with_blocks b.fair (block_if t b e)
   publish_fair true b e = refl
   publish_fair false b e = refl
@@ -52,7 +47,7 @@ one_more s b same (Keep e) answer =
     keep_fair (is_done answer) (eqb (parent_of (rows_of b.pages) e) 0) b e (parent_of (rows_of b.pages) e)
     ∙ ap (λ rows. with_blocks b.fair (block_if (is_done answer && eqb (parent_of rows e) 0) b e)) same
 one_more s b same (Publish e) answer = publish_fair (is_done answer) b e
-one_more s b same (Abandon e) answer = cond_fair (is_done answer) (with_abandoned b e) b refl
+one_more s b same (Abandon e) answer = cond_both (is_done answer) (with_abandoned b e) b (λ c. c.fair ≡ b.fair) (λ t. refl) (λ f. refl)
 one_more s b same (Value c) answer = refl
 
 -- ---- histories
@@ -96,7 +91,7 @@ module _ {V P O : Type 0} (R : Rules V P O) (law : CrossingLaw R) (first : List 
 -- ---- set-up
 
 no_rows : Grown []
-no_rows = record { zero_free = λ s. false≢true s; falls = λ e s. absurd (false≢true s); rooted = λ e. inl refl }
+no_rows = record { zero_free = λ s. cc; falls = λ e s. cc; rooted = λ e. inl refl }
 
 module _ {V P O : Type 0} (R : Rules V P O) (law : CrossingLaw R) (first : List V) (rows lines : ℕ) where
   lawful : sound_for R first rows lines ≡ true → all_lawful R first ≡ true
@@ -107,12 +102,12 @@ module _ {V P O : Type 0} (R : Rules V P O) (law : CrossingLaw R) (first : List 
     table = [];
     lines_are = refl;
     rows_are = refl;
-    numbered = λ e s. absurd (false≢true s);
+    numbered = λ e s. cc;
     core = record {
       frame = record { grown = no_rows; holders = tt; items_ok = tt; order = tt };
       value_ok = ok;
-      sees = λ e s. absurd (false≢true s);
-      copied = λ e s. absurd (false≢true s);
+      sees = λ e s. cc;
+      copied = λ e s. cc;
       fair_right = tt;
       fair_value = refl;
     };
@@ -143,8 +138,8 @@ untouched : {V P O : Type 0} (R : Rules V P O) (first : List V) (rows lines : �
 untouched R first rows lines = record {
   fair_answers = tt;
   fair_values = refl;
-  standing_answers = λ e st. absurd (false≢true st);
-  standing_sees = λ e c st. absurd (false≢true st);
+  standing_answers = λ e st. cc;
+  standing_sees = λ e c st. cc;
   same_standing = refl;
   elders_are = elders_are [] no_rows;
   one_block_each = refl;

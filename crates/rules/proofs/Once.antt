@@ -11,7 +11,7 @@ use Rattle.rules.specs.declared.refusals.Refusal.TheVariants.{NotStanding}
 use Rattle.rules.specs.Entries.{stands, parent_of, is_own_or_elder, without}
 use Rattle.rules.specs.Cells.{value_at}
 use Rattle.rules.specs.States.{State}
-use Rattle.rules.specs.Calls.{Outcome, seen, questions, further_questions, committed_state, passed_state, kept_state, taken, step}
+use Rattle.rules.specs.Calls.{Outcome, seen, questions, further_questions, committed_state, kept_state, taken, step}
 use Rattle.rules.specs.Books.{Book, write}
 use Rattle.rules.specs.FairCopy.{Event, Leads, Block, AllDiffer, block_if, added_by, blocks_added}
 use Rattle.rules.proofs.Kinship.{rest, stood, others, other_not, joined_cases}
@@ -56,14 +56,10 @@ module _ {V P O : Type 0} (R : Rules V P O) (first : List V) (s : State V P) (b 
   begin_open q x (inl st) = elim (joined_cases s.rows (s.begun + 1) q up.numbered x st) [ inl i ↦ inr (omega arith) | inr t ↦ inl t ]
   begin_open q x (inr l) = inr (omega arith)
 
-  keep_open : (e : ℕ) → WasOpen (taken R s (Keep e))
-  keep_open e = cond_both (eqb (parent_of s.rows e) 0) (committed_state R s e) (passed_state s e (parent_of s.rows e)) (λ t. (x : ℕ) → Open t x → Open s x)
-      (λ is. left_open (others e) s) (λ is. left_open (others e) s)
-
   taken_open : (call : Call P) → WasOpen (taken R s call)
   taken_open (Begin q) = begin_open q
   taken_open (Post e c p) = valued WasOpen s (seen R s e c) (λ v. _) (λ refusal x h. h) (λ v is x h. h)
-  taken_open (Keep e) = keep_open e
+  taken_open (Keep e) = cond_both (eqb (parent_of s.rows e) 0) _ _ (λ t. (x : ℕ) → Open t x → Open s x) (λ is. left_open (others e) s) (λ is. left_open (others e) s)
   taken_open (Publish e) = left_open (others e) s
   taken_open (Abandon e) = left_open (λ x. not (is_own_or_elder s.rows x e)) s
   taken_open (Value c) = valued WasOpen s (value_at s.values c) (λ v. _) (λ refusal x h. h) (λ v is x h. h)
@@ -85,21 +81,15 @@ module _ {V P O : Type 0} (R : Rules V P O) (first : List V) (s : State V P) (b 
   one_block false t e st shut = (tt, tt)
 
   taken_once : (call : Call P) → AllYes (further_questions R s call) → AddsOnce call (taken R s call)
-  taken_once (Begin q) ys = (tt, tt)
-  taken_once (Post e c p) ys = (tt, tt)
   taken_once (Keep e) ys =
       let st = ask_yes (stands s.rows e) NotStanding ys.0 in
       one_block (eqb (parent_of s.rows e) 0) (kept_state R s e) e st
-      (cond_both (eqb (parent_of s.rows e) 0) (committed_state R s e) (passed_state s e (parent_of s.rows e)) (λ t. Open t e → ⊥) (λ is. gone e st) (λ is. gone e st))
+      (cond_both (eqb (parent_of s.rows e) 0) _ _ (λ t. Open t e → ⊥) (λ is. gone e st) (λ is. gone e st))
   taken_once (Publish e) ys = let st = ask_yes (stands s.rows e) NotStanding ys.0 in one_block true (committed_state R s e) e st (gone e st)
-  taken_once (Abandon e) ys = (tt, tt)
-  taken_once (Value c) ys = (tt, tt)
-
-  turned_once : (blocks : List (Block P O)) → blocks ≡ [] → AllDiffer blocks × All (Ended s s) blocks
-  turned_once blocks none = subst (λ bs. AllDiffer bs × All (Ended s s) bs) (sym none) (tt, tt)
+  taken_once call ys = (tt, tt)
 
   adds_once : (call : Call P) → AddsOnce call (step R s call)
-  adds_once call = asked R (AddsOnce call) s (taken R s call) (λ refusal. turned_once (added_by s b call (Err refusal)) (unadded s b call refusal)) (questions R s call) (λ ys. taken_once call ys.1)
+  adds_once call = asked R (AddsOnce call) s (taken R s call) (λ refusal. subst (λ bs. AllDiffer bs × All (Ended s s) bs) (sym (unadded s b call refusal)) (tt, tt)) (questions R s call) (λ ys. taken_once call ys.1)
 
 -- ---- histories
 

@@ -1,5 +1,6 @@
 -- Whether a call was taken or turned away, from its answer; and that a call turned away leaves everything as it was.
-use Rattle.std.proofs.Common.{◌≡◌, ℕ, zero, suc, ◌≤◌, ◌⊎◌, List, [], ◌∷◌, length, Some, None, Ok, Err, Option, refl, subst, inl, inr, arith}
+use Rattle.std.proofs.Common.{◌≡◌, ℕ, ◌≤◌, ◌⊎◌, List, length, Some, None, Ok, Err, Option, refl, sym, ◌∙◌, subst, inl, inr}
+use Rattle.std.proofs.lemmas.Option.{slice_get_cases}
 use Rattle.cells.specs.Kinds.{Rules}
 use Rattle.rules.specs.declared.calls.Call.{Call}
 use Rattle.rules.specs.declared.calls.Call.TheVariants.{Post, Value}
@@ -16,9 +17,7 @@ of_none f None h = refl
 of_none f (Some v) h = cc
 
 value_past : {V : Type 0} (vs : List V) (c : ℕ) → value_at vs c ≡ None → length vs ≤ c
-value_past [] c h = omega arith
-value_past (v ∷ vs) zero h = cc
-value_past (v ∷ vs) (suc c) h = let l : length vs ≤ c = value_past vs c h in omega arith
+value_past vs c h = elim (slice_get_cases vs c).1 [ inl w ↦ cc (sym h ∙ w.2) | inr p ↦ p.0 ]
 
 module _ {V P O : Type 0} (R : Rules V P O) (s : State V P) where
   pub refused_by : (o : Option Refusal) (outcome : Outcome V P O) (refusal : Refusal) → (unless_refused R s o outcome).answer ≡ Err refusal → (o ≡ Some refusal) ⊎ ((o ≡ None) × (outcome.answer ≡ Err refusal))

@@ -1,6 +1,5 @@
 -- The pages of a book: whose they are and which copy each has, once one is added, written on or taken out.
 use Rattle.std.proofs.Common.{◌≡◌, ℕ, Bool, true, false, cond, ◌||◌, eqb, List, [], ◌∷◌, ◌++◌, filter, sym, refl, ap, ◌∙◌}
-use mathlib.Core.Bool.{false≢true}
 use Rattle.std.proofs.lemmas.Bool.{cond-true, cond-false, or_parts, eqb-true, ne_eqb, cond_both}
 use Rattle.rules.specs.declared.rows.Row.{Row}
 use Rattle.rules.specs.Entries.{stands}
@@ -34,7 +33,7 @@ module _ {P O : Type 0} where
   rows_written e more pages = map-map row_of (written e more) pages
 
   pub copy_written : (e : ℕ) (more : Copy P O → Copy P O) (pages : List (Page P O)) → stands (rows_of pages) e ≡ true → copy_of (write_on e more pages) e ≡ more (copy_of pages e)
-  copy_written e more [] s = absurd (false≢true s)
+  copy_written e more [] s = cc
   copy_written e more (g ∷ pages) s =
       elim (eqb g.entry e) as (λ b. (b || stands (rows_of pages) e) ≡ true → cond b (cond b (more g.copy) g.copy) (copy_of (write_on e more pages) e) ≡ more (cond b g.copy (copy_of pages e)))
       [ true ↦ λ t. refl | false ↦ λ t. copy_written e more pages t ] s

@@ -1,6 +1,5 @@
 -- Every call upholds what ties the register to the book.
 use Rattle.std.proofs.Common.{◌≡◌, ℕ, ◌+◌, ◌<◌, Bool, true, false, cond, not, ◌&&◌, ◌||◌, eqb, ◌⊎◌, List, [], ◌∷◌, ◌++◌, map, None, fold, filter, sym, refl, ap, ◌∙◌, subst, inl, inr, arith}
-use mathlib.Core.Bool.{false≢true}
 use Rattle.std.specs.List.{AllByRecursion as All}
 use Rattle.std.proofs.lemmas.Bool.{cond_both, false_from_ne_true, eqb-true, eqb-false, or_cases, and_cases, not-false, both_ways}
 use Rattle.std.proofs.ByRecursion.{All-weaker}
@@ -169,7 +168,7 @@ module _ {V P O : Type 0} (R : Rules V P O) (law : CrossingLaw R) (first : List 
   top_good : (e : ℕ) → stands s.rows e ≡ true → childless s.rows e ≡ true → parent_of s.rows e ≡ 0 → Upheld R first (committed_state R s e) (with_fair_block b e)
   top_good e st ch top =
       commit_good e st ch
-      (all_of (λ g. all_of (λ m k a. absurd (false≢true (subst (λ l. is_among l g.holder ≡ true) (elders_top s.rows e top) k))) up.table) up.table)
+      (all_of (λ g. all_of (λ m k a. cc (subst (λ l. is_among l g.holder ≡ true) (elders_top s.rows e top) k)) up.table) up.table)
 
   -- ---- an inner keep
 
