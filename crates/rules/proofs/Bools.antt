@@ -1,12 +1,12 @@
--- Facts about tests that the shelf has in other forms: a test that another implies, and one that is made of two others.
+-- A test that another implies, and a test that is one of two others.
 use Rattle.std.proofs.Common.{◌≡◌, Bool, true, false, not, ◌&&◌, ◌||◌, refl}
+-- the shelf's lemma, under the name that other crates have it by
 pub use Rattle.std.proofs.lemmas.Bool.{false_from_ne_true as false_by}
 
 -- a test that another implies
 pub and_implied : (k b : Bool) → (b ≡ true → k ≡ true) → (k && b) ≡ b
-and_implied true b f = refl
 and_implied false true f = f refl
-and_implied false false f = refl
+and_implied k b f = refl
 
 -- a test that is one of two others, which exclude each other
 pub data Parts : Bool → Bool → Bool → Type 0 where

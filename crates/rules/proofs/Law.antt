@@ -36,8 +36,7 @@ module _ {P O : Type 0} where
 
   keep_fair : (t top : Bool) (b : Book P O) (e q : ℕ) → (cond t (cond top (with_fair_block b e) (with_block b e q)) b).fair ≡ with_blocks b.fair (block_if (t && top) b e)
   keep_fair true true b e q = refl
-  keep_fair true false b e q = refl
-  keep_fair false top b e q = refl
+  keep_fair t top b e q = refl
 
 -- what a call writes into the fair copy is just the block that it adds
 one_more : {V P O : Type 0} (s : State V P) (b : Book P O) → rows_of b.pages ≡ s.rows → (call : Call P) (answer : Answer V O) → (write b call answer).fair ≡ with_blocks b.fair (added_by s b call answer)

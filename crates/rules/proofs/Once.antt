@@ -7,7 +7,6 @@ use Rattle.cells.specs.Kinds.{Rules, CrossingLaw}
 use Rattle.rules.specs.declared.calls.Call.{Call}
 use Rattle.rules.specs.declared.calls.Call.TheVariants.{Begin, Post, Keep, Publish, Abandon, Value}
 use Rattle.rules.specs.declared.refusals.Refusal.{Refusal}
-use Rattle.rules.specs.declared.refusals.Refusal.TheVariants.{NotStanding}
 use Rattle.rules.specs.Entries.{stands, parent_of, is_own_or_elder, without}
 use Rattle.rules.specs.Cells.{value_at}
 use Rattle.rules.specs.States.{State}
@@ -82,10 +81,10 @@ module _ {V P O : Type 0} (R : Rules V P O) (first : List V) (s : State V P) (b 
 
   taken_once : (call : Call P) → AllYes (further_questions R s call) → AddsOnce call (taken R s call)
   taken_once (Keep e) ys =
-      let st = ask_yes (stands s.rows e) NotStanding ys.0 in
+      let st = ask_yes _ _ ys.0 in
       one_block (eqb (parent_of s.rows e) 0) (kept_state R s e) e st
       (cond_both (eqb (parent_of s.rows e) 0) _ _ (λ t. Open t e → ⊥) (λ is. gone e st) (λ is. gone e st))
-  taken_once (Publish e) ys = let st = ask_yes (stands s.rows e) NotStanding ys.0 in one_block true (committed_state R s e) e st (gone e st)
+  taken_once (Publish e) ys = let st = ask_yes _ _ ys.0 in one_block true (committed_state R s e) e st (gone e st)
   taken_once call ys = (tt, tt)
 
   adds_once : (call : Call P) → AddsOnce call (step R s call)

@@ -1,5 +1,5 @@
 -- Every call upholds what ties the register to the book.
-use Rattle.std.proofs.Common.{◌≡◌, ℕ, ◌+◌, ◌<◌, Bool, true, false, cond, not, ◌&&◌, ◌||◌, eqb, ◌⊎◌, List, [], ◌∷◌, ◌++◌, map, None, fold, filter, sym, refl, ap, ◌∙◌, subst, inl, inr, arith}
+use Rattle.std.proofs.Common.{◌≡◌, ℕ, ◌+◌, ◌<◌, Bool, true, false, cond, not, ◌&&◌, eqb, ◌⊎◌, List, [], ◌∷◌, ◌++◌, map, None, fold, filter, sym, refl, ap, ◌∙◌, subst, inl, inr, arith}
 use Rattle.std.specs.List.{AllByRecursion as All}
 use Rattle.std.proofs.lemmas.Bool.{cond_both, false_from_ne_true, eqb-true, eqb-false, or_cases, and_cases, not-false, both_ways}
 use Rattle.std.proofs.ByRecursion.{All-weaker}
@@ -11,7 +11,6 @@ use Rattle.rules.specs.declared.lines.Line.{Line}
 use Rattle.rules.specs.declared.calls.Call.{Call}
 use Rattle.rules.specs.declared.calls.Call.TheVariants.{Begin, Post, Keep, Publish, Abandon, Value}
 use Rattle.rules.specs.declared.refusals.Refusal.{Refusal}
-use Rattle.rules.specs.declared.refusals.Refusal.TheVariants.{NotStanding, HasChild, UnlawfulPosting, InTheWay, HeldByElder}
 use Rattle.rules.specs.Entries.{stands, childless, parent_of, elders, is_among, is_own_or_elder, without, outside}
 use Rattle.rules.specs.Cells.{value_at, of_value}
 use Rattle.rules.specs.States.{State}
@@ -58,7 +57,7 @@ module _ {V P O : Type 0} (R : Rules V P O) (law : CrossingLaw R) (first : List 
   begin_good : (q : ℕ) → AllYes (further_questions R s (Begin q)) → Good (Begin q) (taken R s (Begin q))
   begin_good q ys =
       let n = s.begun + 1 in
-      let parent_ok : (q ≡ 0) ⊎ (stands s.rows q ≡ true) = elim (or_cases (eqb q 0) (stands s.rows q) (ask_yes (eqb q 0 || stands s.rows q) NotStanding ys.0)) [ inl i ↦ inl (eqb-true q 0 i) | inr t ↦ inr t ] in
+      let parent_ok : (q ≡ 0) ⊎ (stands s.rows q ≡ true) = elim (or_cases (eqb q 0) (stands s.rows q) (ask_yes _ _ ys.0)) [ inl i ↦ inl (eqb-true q 0 i) | inr t ↦ inr t ] in
       let fresh : stands (rows_of b.pages) n ≡ true → ⊥ = λ t. (let l : n < n = up.numbered n (subst (λ rs. stands rs n ≡ true) up.rows_are t) in omega arith) in
       record {
         table = up.table;
@@ -103,7 +102,7 @@ module _ {V P O : Type 0} (R : Rules V P O) (law : CrossingLaw R) (first : List 
   post_good e c p ys = valued (Good (Post e c p)) s (seen R s e c) (λ v. _) (turned (Post e c p))
       (λ v is. (
       let line : Copied P O = record { cell = c; posting = p; answer = R.answer v p } in
-      let st = ask_yes (stands s.rows e) NotStanding ys.0 in
+      let st = ask_yes _ _ ys.0 in
       record {
         table = up.table ++ (record { holder = e; item = line } ∷ []);
         lines_are = ap (λ ls. ls ++ (record { holder = e; cell = c; posting = p } ∷ [])) up.lines_are ∙ sym (map_push bare up.table (record { holder = e; item = line }));
@@ -113,9 +112,9 @@ module _ {V P O : Type 0} (R : Rules V P O) (law : CrossingLaw R) (first : List 
             (λ f sf. cond_both (eqb f e) (lines_at b e ++ (line ∷ [])) (lines_at b f) (λ l. l ≡ lines_at (with_line b e line) f)
             (λ t. sym (ap lines_of (ap (copy_of (with_line b e line).pages) (eqb-true f e t) ∙ copy_written e (λ copy. then_line copy line) b.pages (in_book e st))))
             (λ d. sym (ap lines_of (copy_unwritten e (λ copy. then_line copy line) b.pages f (eqb-false f e d)))))
-            (posted (laws R law) up.core e line st (ask_yes (childless s.rows e) HasChild ys.1.0) (ask_yes (R.posting_lawful p) UnlawfulPosting ys.1.1.1.0)
+            (posted (laws R law) up.core e line st (ask_yes _ _ ys.1.0) (ask_yes _ _ ys.1.1.1.0)
             (ap (of_value (λ w. R.answer w p)) (seen_at e c ∙ is))
-            (none_in_way e c p (R.answer v p) (ask_holder_yes (earliest_holder (stops_posting R s e c p) s.lines) InTheWay ys.1.1.1.1.0)));
+            (none_in_way e c p (R.answer v p) (ask_holder_yes _ _ ys.1.1.1.1.0)));
       }
       ))
 
@@ -161,8 +160,8 @@ module _ {V P O : Type 0} (R : Rules V P O) (law : CrossingLaw R) (first : List 
 
   publish_good : (e : ℕ) → AllYes (further_questions R s (Publish e)) → Good (Publish e) (taken R s (Publish e))
   publish_good e ys =
-      commit_good e (ask_yes (stands s.rows e) NotStanding ys.0) (ask_yes (childless s.rows e) HasChild ys.1.0)
-      (none_withheld e (ask_holder_yes (earliest_holder (stops_publishing R s e) s.lines) HeldByElder ys.1.1.0))
+      commit_good e (ask_yes _ _ ys.0) (ask_yes _ _ ys.1.0)
+      (none_withheld e (ask_holder_yes _ _ ys.1.1.0))
 
   -- a top entry has no elders that could hold a line
   top_good : (e : ℕ) → stands s.rows e ≡ true → childless s.rows e ≡ true → parent_of s.rows e ≡ 0 → Upheld R first (committed_state R s e) (with_fair_block b e)
@@ -200,7 +199,7 @@ module _ {V P O : Type 0} (R : Rules V P O) (law : CrossingLaw R) (first : List 
   keep_good : (e : ℕ) → AllYes (further_questions R s (Keep e)) → Good (Keep e) (taken R s (Keep e))
   keep_good e ys =
       subst (λ rs. Upheld R first (kept_state R s e) (cond (eqb (parent_of rs e) 0) (with_fair_block b e) (with_block b e (parent_of rs e)))) (sym up.rows_are)
-      (keep_cond e (eqb (parent_of s.rows e) 0) refl (ask_yes (stands s.rows e) NotStanding ys.0) (ask_yes (childless s.rows e) HasChild ys.1.0))
+      (keep_cond e (eqb (parent_of s.rows e) 0) refl (ask_yes _ _ ys.0) (ask_yes _ _ ys.1.0))
 
   -- ---- abandon and value
 

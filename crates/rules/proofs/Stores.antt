@@ -21,28 +21,22 @@ of_value_twice f g None = refl
 of_value_twice f g (Some v) = refl
 
 value_same : {V : Type 0} (f : V → V) (vs : List V) (c : ℕ) → value_at (change_at f vs c) c ≡ of_value f (value_at vs c)
-value_same f [] c = refl
-value_same f (v ∷ vs) zero = refl
 value_same f (v ∷ vs) (suc c) = value_same f vs c
+value_same f vs c = refl
 
 value_other : {V : Type 0} (f : V → V) (vs : List V) (c d : ℕ) → (d ≡ c → ⊥) → value_at (change_at f vs c) d ≡ value_at vs d
-value_other f [] c d ne = refl
 value_other f (v ∷ vs) zero zero ne = absurd (ne refl)
-value_other f (v ∷ vs) zero (suc d) ne = refl
-value_other f (v ∷ vs) (suc c) zero ne = refl
 value_other f (v ∷ vs) (suc c) (suc d) ne = value_other f vs c d (λ i. ne (ap suc i))
+value_other f vs c d ne = refl
 
 change_twice : {V : Type 0} (f g : V → V) (vs : List V) (c : ℕ) → change_at g (change_at f vs c) c ≡ change_at (λ v. g (f v)) vs c
-change_twice f g [] c = refl
-change_twice f g (v ∷ vs) zero = refl
 change_twice f g (v ∷ vs) (suc c) = ap (λ ws. v ∷ ws) (change_twice f g vs c)
+change_twice f g vs c = refl
 
 change_other : {V : Type 0} (f g : V → V) (vs : List V) (c d : ℕ) → (c ≡ d → ⊥) → change_at g (change_at f vs c) d ≡ change_at f (change_at g vs d) c
-change_other f g [] c d ne = refl
 change_other f g (v ∷ vs) zero zero ne = absurd (ne refl)
-change_other f g (v ∷ vs) zero (suc d) ne = refl
-change_other f g (v ∷ vs) (suc c) zero ne = refl
 change_other f g (v ∷ vs) (suc c) (suc d) ne = ap (λ ws. v ∷ ws) (change_other f g vs c d (λ i. ne (ap suc i)))
+change_other f g vs c d ne = refl
 
 -- ---- lawful values
 
