@@ -3,10 +3,10 @@
 use Rattle.std.proofs.Common.{◌≡◌, ℕ, Bool, false, List, [], ◌∷◌, map, Some, None, filter, sym, ◌∙◌}
 use Rattle.std.specs.List.{AllByRecursion as All}
 use Rattle.std.proofs.lemmas.Bool.{or_parts, cond_both}
+use Rattle.std.proofs.lemmas.Simd.{map-map}
 use Rattle.rules.specs.declared.lines.Line.{Line}
 use Rattle.rules.specs.Calls.{holder_after, pass_on, some_line, earliest_holder}
 use Rattle.rules.specs.Books.{Copied}
-use Rattle.std.proofs.lemmas.Simd.{map-map}
 use Rattle.rules.proofs.Pairs.{filter_map_swap}
 use Rattle.rules.proofs.Holdings.{Held, renamed}
 use Rattle.rules.proofs.Standing.{left_of}

@@ -2,10 +2,10 @@
 use Rattle.std.proofs.Common.{◌≡◌, ℕ, Bool, true, cond, List, [], ◌∷◌, ◌++◌, Some, Decides, refl, ap, ◌∙◌, inl, inr}
 use Rattle.std.specs.List.{AllByRecursion as All}
 use Rattle.std.proofs.lemmas.Bool.{cond_both, both_ways, or_cases, or_left, or_right, false_from_ne_true}
+use Rattle.std.proofs.lemmas.Option.{same_Some}
 use Rattle.rules.specs.declared.lines.Line.{Line}
 use Rattle.rules.specs.Calls.{some_line, earliest_holder}
 use Rattle.rules.specs.TurnedAway.{Among, Earliest}
-use Rattle.std.proofs.lemmas.Option.{same_Some}
 
 module _ {P : Type 0} where
   abbrev among_first : (x : Line P) (xs : List (Line P)) → Among x (x ∷ xs)

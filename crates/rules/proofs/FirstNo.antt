@@ -1,10 +1,10 @@
 -- The first no to a list of questions: it is one of them, and has the least number of those that are answered no.
 use Rattle.std.proofs.Common.{◌≡◌, ℕ, ◌<◌, ◌≤◌, Bool, true, false, ◌&&◌, ltb, ◌⊎◌, List, [], ◌∷◌, Some, None, Option, refl, subst, inl, inr, arith}
 use Rattle.std.proofs.lemmas.Bool.{ltb-true, and_parts}
+use Rattle.std.proofs.lemmas.Option.{same_Some}
 use Rattle.rules.specs.declared.refusals.Refusal.{Refusal}
 use Rattle.rules.specs.Refusals.{number_of}
 use Rattle.rules.specs.Calls.{ask, ask_holder, first_no}
-use Rattle.std.proofs.lemmas.Option.{same_Some}
 
 module _ (No : Refusal → Type 0) where
   -- a question of number n, if answered no, says a refusal of that number which holds

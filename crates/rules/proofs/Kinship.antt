@@ -1,7 +1,7 @@
 -- Who is whose elder, by what is looked up of the standing entries: the order of their rows makes no difference.
 use Rattle.std.proofs.Common.{◌≡◌, ℕ, zero, suc, ◌<◌, ◌≤◌, Bool, true, false, cond, not, ◌&&◌, ◌||◌, eqb, ◌⊎◌, List, [], ◌∷◌, ◌++◌, Decides, filter, sym, refl, ap, ◌∙◌, subst, inl, inr, arith}
-use Rattle.std.proofs.lemmas.List.Recursion.{same_from_clauses, or_push, found_push_other}
 use Rattle.std.specs.List.{list_any}
+use Rattle.std.proofs.lemmas.List.Recursion.{same_from_clauses, or_push, found_push_other}
 use Rattle.std.proofs.lemmas.Map.Views.{any-filter_same}
 use Rattle.std.proofs.lemmas.Bool.{cond_both, cond-true, cond-false, eqb-true, eqb-false, eq-eqb, ne_eqb, or_cases, or_left, or_right, cases_Bool, cases_eq, and_parts, and_from, not-true, not_from_false, false_from_ne_true, both_ways}
 use Rattle.rules.specs.declared.rows.Row.{Row}
@@ -132,8 +132,7 @@ module _ (rows : List Row) (g : Grown rows) where
   -- an elder is named by the list
   pub elder_among : {x e : ℕ} → Elder rows x e → is_among (elders rows e) x ≡ true
   elder_among {x} {e} (its_parent i z) =
-      subst (λ l. is_among l x ≡ true) (sym (elders_inner e (λ w. z (sym i ∙ w))))
-      (subst (λ y. is_among (parent_of rows e ∷ elders rows (parent_of rows e)) y ≡ true) i (among_self (parent_of rows e) (elders rows (parent_of rows e))))
+      subst (λ l. is_among l x ≡ true) (sym (elders_inner e (λ w. z (sym i ∙ w)))) (or_left _ _ (eq-eqb x (parent_of rows e) (sym i)))
   elder_among {x} {e} (of_its_parent k) =
       subst (λ l. is_among l x ≡ true) (sym (elders_inner e (λ w. no_elder_of_zero w k)))
       (among_more x (parent_of rows e) (elders rows (parent_of rows e)) (elder_among k))

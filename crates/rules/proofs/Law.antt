@@ -1,6 +1,7 @@
 -- The fair-copy law, over every history from set-up on.
 use Rattle.std.proofs.Common.{◌≡◌, ℕ, Bool, true, false, cond, ◌&&◌, eqb, List, [], ◌∷◌, ◌++◌, length, Some, None, Err, fold, Option, sym, refl, ap, ◌∙◌, subst, inl, inr}
 use Rattle.std.proofs.lemmas.Bool.{cond_both, cases_Bool, and_parts}
+use Rattle.std.proofs.lemmas.Grind.{fold-append}
 use Rattle.cells.specs.Kinds.{Rules, CrossingLaw}
 use Rattle.rules.specs.declared.calls.Call.{Call}
 use Rattle.rules.specs.declared.calls.Call.TheVariants.{Begin, Post, Keep, Publish, Abandon, Value}
@@ -12,7 +13,6 @@ use Rattle.rules.specs.Calls.{Answer, seen, ask, first_no, further_questions, tu
 use Rattle.rules.specs.Books.{Copy, then_block, lines_of, Book, new_book, rows_of, begun_number, posting_answer, is_done, if_any, with_begun, with_line, with_fair_block, with_block, with_abandoned, write}
 use Rattle.rules.specs.FairCopy.{Event, book_of, Leads, post_line, GetTheirAnswers, values_after, last_named_first, lines_so_far, Block, block_if, added_by, blocks_added, FairCopyHolds, FairCopyLaw}
 use Rattle.rules.proofs.Exchanges.{right_append}
-use Rattle.std.proofs.lemmas.Grind.{fold-append}
 use Rattle.rules.proofs.Kinship.{Grown, elders_are}
 use Rattle.rules.proofs.Descending.{so_far_right, so_far_end}
 use Rattle.rules.proofs.Stores.{laws}

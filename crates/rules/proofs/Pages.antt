@@ -1,11 +1,11 @@
 -- The pages of a book: whose they are and which copy each has, once one is added, written on or taken out.
 use Rattle.std.proofs.Common.{◌≡◌, ℕ, Bool, true, false, cond, ◌||◌, eqb, List, [], ◌∷◌, ◌++◌, filter, sym, refl, ap, ◌∙◌}
 use Rattle.std.proofs.lemmas.Bool.{cond-true, cond-false, or_parts, eqb-true, ne_eqb, cond_both}
+use Rattle.std.proofs.lemmas.List.{map_push}
+use Rattle.std.proofs.lemmas.Simd.{map-map}
 use Rattle.rules.specs.declared.rows.Row.{Row}
 use Rattle.rules.specs.Entries.{stands}
 use Rattle.rules.specs.Books.{Copy, empty, Page, rows_of, copy_of, write_on}
-use Rattle.std.proofs.lemmas.List.{map_push}
-use Rattle.std.proofs.lemmas.Simd.{map-map}
 use Rattle.rules.proofs.Pairs.{filter_map_swap}
 use Rattle.rules.proofs.Kinship.{found_left, rest}
 

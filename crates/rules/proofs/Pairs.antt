@@ -1,7 +1,7 @@
 -- What holds of each element of a list, and of each two, the earlier first.
 use Rattle.std.proofs.Common.{◌≡◌, Bool, true, List, [], ◌∷◌, ◌++◌, map, filter, refl, ap, ◌∙◌}
-use Rattle.std.proofs.lemmas.Bool.{cond_both, cond-true, cond-false}
 use Rattle.std.specs.List.{AllByRecursion as All}
+use Rattle.std.proofs.lemmas.Bool.{cond_both, cond-true, cond-false}
 use Rattle.std.proofs.ByRecursion.{All-weaker, All-push, all_kept_by, All-map}
 
 -- what holds of everything holds of each element

@@ -1,6 +1,7 @@
 -- Lines on cells, as things that change all the values: lines on different cells cross, and lines on one cell as their kind says.
 use Rattle.std.proofs.Common.{◌≡◌, ℕ, zero, suc, Bool, true, false, cond, ◌&&◌, eqb, ◌⊎◌, List, [], ◌∷◌, map, Some, None, Option, fold, filter, sym, refl, ap, ◌∙◌, subst, inl, inr}
 use Rattle.std.proofs.lemmas.Bool.{eqb-true, eqb-false, cases_eq, and_parts, and_from}
+use Rattle.std.proofs.lemmas.Iterator.Adapters.{option_map_id}
 use Rattle.cells.specs.Kinds.{Rules, CrossingLaw}
 use Rattle.cells.specs.Sequences.{after_all}
 use Rattle.rules.specs.declared.lines.Line.{Line}
@@ -10,7 +11,6 @@ use Rattle.rules.specs.Calls.{commit, held_by}
 use Rattle.rules.specs.Books.{Copied}
 use Rattle.rules.specs.FairCopy.{post_line, GetsItsAnswer}
 use Rattle.rules.proofs.Exchanges.{Laws}
-use Rattle.std.proofs.lemmas.Iterator.Adapters.{option_map_id}
 use Rattle.rules.proofs.Holdings.{Held, held}
 use Rattle.rules.proofs.Standing.{own}
 
