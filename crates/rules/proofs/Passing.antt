@@ -11,7 +11,7 @@ use Rattle.rules.proofs.Exchanges.{Same, Laws, same_trans, same_sym, same_left, 
 use Rattle.rules.proofs.Bools.{Parts, parts_alone, parts_swap, parts_first, parts_or, parts_rest}
 use Rattle.rules.proofs.Pairs.{Pairs, all_of, pairs_weaker, pairs_map}
 use Rattle.rules.proofs.Holdings.{Held, held, renamed, held_agree, held_renamed, split, cross_held}
-use Rattle.rules.proofs.Numbers.{among_cases, among_more}
+use Rattle.rules.proofs.Numbers.{among_cases}
 use Rattle.rules.proofs.Kinship.{Grown, rest, stood, grown_rest, stands_rest, elders_rest, others, not_other, other_not, closed_others, kin_self, kin_trans, kin_childless}
 use Rattle.rules.proofs.Standing.{Frame, Core, own, Ordered, held_ok, copied_with}
 
@@ -48,9 +48,6 @@ module _ {V X : Type 0} {after : V → X → V} {Right : V → X → Type 0} {Ok
 
     cases_kin : (h : ℕ) → is_own_or_elder rows e h ≡ true → (e ≡ h) ⊎ (is_own_or_elder rows q h ≡ true)
     cases_kin h m = elim (among_cases h e (elders rows e) m) [ inl i ↦ inl (sym i) | inr k ↦ inr (subst (λ l. is_among l h ≡ true) is k) ]
-
-    in_kin : (h : ℕ) → is_own_or_elder rows q h ≡ true → is_own_or_elder rows e h ≡ true
-    in_kin h m = among_more h e (elders rows e) (subst (λ l. is_among l h ≡ true) (sym is) m)
 
     after_stands : (h : ℕ) → stands rows h ≡ true → stands left (holder_after e q h) ≡ true
     after_stands h s = after_both (λ y. stands left y ≡ true) e q h (λ i. stands_rest (others e) rows q sq (not_other e q ne)) (λ d. stands_rest (others e) rows h s (not_other e h d))
