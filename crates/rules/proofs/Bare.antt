@@ -1,26 +1,24 @@
 -- The register's lines are those of a table of held lines without their answers; so what is done to the one is done to the other,
 -- and what a question finds in the one it finds in the other.
-use Rattle.std.proofs.Common.{◌≡◌, ℕ, Bool, true, false, cond, List, [], ◌∷◌, map, Some, None, filter, Option, refl, ap}
+use Rattle.std.proofs.Common.{◌≡◌, ℕ, Bool, false, List, [], ◌∷◌, map, Some, None, filter, sym, ◌∙◌}
 use Rattle.std.specs.List.{AllByRecursion as All}
-use Rattle.std.proofs.lemmas.Bool.{or_parts}
+use Rattle.std.proofs.lemmas.Bool.{or_parts, cond_both}
+use Rattle.std.proofs.lemmas.Simd.{map-map}
 use Rattle.rules.specs.declared.lines.Line.{Line}
 use Rattle.rules.specs.Calls.{holder_after, pass_on, some_line, earliest_holder}
 use Rattle.rules.specs.Books.{Copied}
+use Rattle.rules.proofs.Pairs.{filter_map_swap}
 use Rattle.rules.proofs.Holdings.{Held, renamed}
 use Rattle.rules.proofs.Standing.{left_of}
-use Rattle.rules.proofs.Options.{some_not_none}
 use Rattle.rules.proofs.Stores.{bare}
 
 -- ---- no line passes a test
 
-none_cond : (b : Bool) (h : ℕ) (o : Option ℕ) → cond b (Some h) o ≡ None → (b ≡ false) × (o ≡ None)
-none_cond true h o e = absurd (some_not_none h e)
-none_cond false h o e = (refl, e)
-
 module _ {P : Type 0} (test : Line P → Bool) where
   pub none_earliest : (ls : List (Line P)) → earliest_holder test ls ≡ None → All (λ l. test l ≡ false) ls
   none_earliest [] e = tt
-  none_earliest (l ∷ ls) e = let es = none_cond (test l) l.holder (earliest_holder test ls) e in (es.0, none_earliest ls es.1)
+  none_earliest (l ∷ ls) e =
+      cond_both (test l) (Some l.holder) (earliest_holder test ls) (λ o. o ≡ None → All (λ m. test m ≡ false) (l ∷ ls)) (λ t h. cc) (λ f h. (f, none_earliest ls h)) e
 
   pub none_some : (ls : List (Line P)) → some_line test ls ≡ false → All (λ l. test l ≡ false) ls
   none_some [] e = tt
@@ -29,17 +27,11 @@ module _ {P : Type 0} (test : Line P → Bool) where
 -- ---- lines without their answers
 
 module _ {P O : Type 0} where
-  kept_cond : (b : Bool) (g : Held (Copied P O)) (ls : List (Line P)) (gs : List (Held (Copied P O))) → ls ≡ map bare gs → cond b (bare g ∷ ls) ls ≡ map bare (cond b (g ∷ gs) gs)
-  kept_cond true g ls gs e = ap (λ w. bare g ∷ w) e
-  kept_cond false g ls gs e = e
-
   pub kept_bare : (k : ℕ → Bool) (gs : List (Held (Copied P O))) → filter (λ l. k l.holder) (map bare gs) ≡ map bare (left_of k gs)
-  kept_bare k [] = refl
-  kept_bare k (g ∷ gs) = kept_cond (k g.holder) g (filter (λ l. k l.holder) (map bare gs)) (left_of k gs) (kept_bare k gs)
+  kept_bare k gs = filter_map_swap bare (λ l. k l.holder) gs
 
   pub passed_bare : (e q : ℕ) (gs : List (Held (Copied P O))) → pass_on e q (map bare gs) ≡ map bare (renamed (holder_after e q) gs)
-  passed_bare e q [] = refl
-  passed_bare e q (g ∷ gs) = ap (λ w. bare (record { holder = holder_after e q g.holder; item = g.item }) ∷ w) (passed_bare e q gs)
+  passed_bare e q gs = map-map _ bare gs ∙ sym (map-map bare _ gs)
 
   pub all_bare : (Q : Line P → Type 0) (gs : List (Held (Copied P O))) → All Q (map bare gs) → All (λ g. Q (bare g)) gs
   all_bare Q [] a = tt

@@ -1,16 +1,15 @@
 -- A begin: a new entry stands, with nothing held and nothing copied.
-use Rattle.std.proofs.Common.{◌≡◌, ℕ, ◌<◌, true, false, cond, ◌||◌, eqb, ◌⊎◌, List, [], ◌∷◌, sym, refl, ap, ◌∙◌, subst, inl, inr, arith}
-use Rattle.std.specs.List.{AllByRecursion as All}
-use Rattle.std.proofs.lemmas.Bool.{eq-eqb, ne_eqb}
+use Rattle.std.proofs.Common.{◌≡◌, ℕ, ◌<◌, true, cond, ◌||◌, eqb, ◌⊎◌, List, [], ◌∷◌, sym, ap, ◌∙◌, subst, inl, inr, arith}
+use Rattle.std.proofs.lemmas.Bool.{ne_eqb}
 use Rattle.std.proofs.ByRecursion.{All-weaker}
 use Rattle.rules.specs.declared.rows.Row.{Row}
 use Rattle.rules.specs.Entries.{stands, elders, is_among, is_own_or_elder}
 use Rattle.rules.specs.FairCopy.{EachInTurn}
 use Rattle.rules.proofs.Exchanges.{Same, same_nil}
-use Rattle.rules.proofs.Pairs.{pairs_weaker}
+use Rattle.rules.proofs.Pairs.{pairs_where}
 use Rattle.rules.proofs.Holdings.{Held, held, held_agree, held_none}
 use Rattle.rules.proofs.Kinship.{joined, joined_old, joined_cases, elders_joined, grown_joined, elders_new_top, elders_new_inner}
-use Rattle.rules.proofs.Standing.{Core, own, Ordered}
+use Rattle.rules.proofs.Standing.{copied_with, Core, own}
 
 module _ {V X : Type 0} {after : V → X → V} {Right : V → X → Type 0} {OkValue : V → Type 0} {OkItem : X → Type 0} {Cross : X → X → Type 0}
     {first : V} {rows : List Row} {table : List (Held X)} {copies : ℕ → List X} {value : V} {fair : List X} (core : Core after Right OkValue OkItem Cross first rows table copies value fair) where
@@ -28,14 +27,13 @@ module _ {V X : Type 0} {after : V → X → V} {Right : V → X → Type 0} {Ok
     same_kin h s x = ap (λ l. is_among (h ∷ l) x) (elders_joined rows n q above core.frame.grown h s)
 
     -- no line is the new entry's own
-    none_own : (gs : List (Held X)) → All (λ g. stands rows g.holder ≡ true) gs → held (own n) gs ≡ []
-    none_own gs a = held_agree (own n) (is_among []) gs (All-weaker (λ g. stands rows g.holder ≡ true) (λ g. own n g.holder ≡ false) (λ g s. ne_eqb g.holder n (older g.holder s)) gs a) ∙ held_none gs
+    none_own : held (own n) table ≡ []
+    none_own = held_agree (own n) (is_among []) table (All-weaker _ _ (λ g s. ne_eqb g.holder n (older g.holder s)) table core.frame.holders) ∙ held_none table
 
     new_sees : (es : List ℕ) → elders grown_rows n ≡ es → held (is_own_or_elder grown_rows n) table ≡ held (is_among es) table
     new_sees es h =
         ap (λ l. held (is_among (n ∷ l)) table) h
-        ∙ held_agree (is_among (n ∷ es)) (is_among es) table
-        (All-weaker (λ g. stands rows g.holder ≡ true) (λ g. is_among (n ∷ es) g.holder ≡ is_among es g.holder) (λ g s. ap (λ b. b || is_among es g.holder) (ne_eqb g.holder n (older g.holder s))) table core.frame.holders)
+        ∙ held_agree _ _ table (All-weaker _ _ (λ g s. ap (λ b. b || is_among es g.holder) (ne_eqb g.holder n (older g.holder s))) table core.frame.holders)
 
     sees_by : (q ≡ 0) ⊎ (stands rows q ≡ true) → EachInTurn after Right value (held (is_own_or_elder grown_rows n) table)
     sees_by (inl z) = subst (EachInTurn after Right value) (sym (new_sees [] (elders_new_top rows n q above core.frame.grown positive under z) ∙ held_none table)) tt
@@ -45,19 +43,17 @@ module _ {V X : Type 0} {after : V → X → V} {Right : V → X → Type 0} {Ok
     began = record {
       frame = record {
         grown = grown_joined rows n q above core.frame.grown positive under;
-        holders = All-weaker (λ g. stands rows g.holder ≡ true) (λ g. stands grown_rows g.holder ≡ true) (λ g s. joined_old rows n q above g.holder s) table core.frame.holders;
+        holders = All-weaker _ _ (λ g s. joined_old rows n q above g.holder s) table core.frame.holders;
         items_ok = core.frame.items_ok;
-        order = pairs_weaker (λ g. stands rows g.holder ≡ true) (Ordered Cross rows) (Ordered Cross grown_rows) (λ g m sg sm o. elim o [ inl c ↦ inl c | inr h ↦ inr (same_kin m.holder sm g.holder ∙ h) ]) table core.frame.holders core.frame.order;
+        order = pairs_where (λ g m sg sm o. elim o [ inl c ↦ inl c | inr h ↦ inr (same_kin m.holder sm g.holder ∙ h) ]) table core.frame.holders core.frame.order;
       };
       value_ok = core.value_ok;
       sees = λ e s. elim (joined_cases rows n q above e s) [
         | inl i ↦ subst (λ x. EachInTurn after Right value (held (is_own_or_elder grown_rows x) table)) (sym i) (sees_by under)
         | inr t ↦ subst (λ l. EachInTurn after Right value (held (is_among (e ∷ l)) table)) (sym (elders_joined rows n q above core.frame.grown e t)) (core.sees e t)
       ];
-      copied = λ e s. elim (joined_cases rows n q above e s) [
-        | inl i ↦ subst (λ x. Same Cross (begun_copies x) (held (own x) table)) (sym i) (subst (λ l. Same Cross (begun_copies n) l) (sym (none_own table core.frame.holders)) (subst (λ b. Same Cross (cond b [] (copies n)) []) (sym (eq-eqb n n refl)) same_nil))
-        | inr t ↦ subst (λ b. Same Cross (cond b [] (copies e)) (held (own e) table)) (sym (ne_eqb e n (older e t))) (core.copied e t)
-      ];
+      copied = λ e s. copied_with table copies n [] (subst (Same Cross []) (sym none_own) same_nil)
+          e (λ d. core.copied e (elim (joined_cases rows n q above e s) [ inl i ↦ absurd (d i) | inr t ↦ t ]));
       fair_right = core.fair_right;
       fair_value = core.fair_value;
     }

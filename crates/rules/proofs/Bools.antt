@@ -1,24 +1,12 @@
--- Facts about tests that the shelf has in other forms: a test by what it excludes, and one that is made of two others.
-use Rattle.std.proofs.Common.{◌≡◌, Bool, true, false, not, ◌&&◌, ◌⊎◌, refl, inl, inr}
-use mathlib.Core.Bool.{false≢true}
-
-pub not_by : (b : Bool) → (b ≡ true → ⊥) → not b ≡ true
-not_by true f = absurd (f refl)
-not_by false f = refl
-
-pub not_so : (b : Bool) → not b ≡ true → b ≡ true → ⊥
-not_so true h k = false≢true h
-not_so false h k = false≢true k
-
-pub false_by : (b : Bool) → (b ≡ true → ⊥) → b ≡ false
-false_by true f = absurd (f refl)
-false_by false f = refl
+-- A test that another implies, and a test that is one of two others.
+use Rattle.std.proofs.Common.{◌≡◌, Bool, true, false, not, ◌&&◌, ◌||◌, refl}
+-- the shelf's lemma, under the name that other crates have it by
+pub use Rattle.std.proofs.lemmas.Bool.{false_from_ne_true as false_by}
 
 -- a test that another implies
 pub and_implied : (k b : Bool) → (b ≡ true → k ≡ true) → (k && b) ≡ b
-and_implied true b f = refl
 and_implied false true f = f refl
-and_implied false false f = refl
+and_implied k b f = refl
 
 -- a test that is one of two others, which exclude each other
 pub data Parts : Bool → Bool → Bool → Type 0 where
@@ -26,11 +14,27 @@ pub data Parts : Bool → Bool → Bool → Type 0 where
   second : Parts true false true
   neither : Parts false false false
 
-pub parts_by : (t a b : Bool) → (t ≡ true → (a ≡ true) ⊎ (b ≡ true)) → (a ≡ true → t ≡ true) → (b ≡ true → t ≡ true) → (a ≡ true → b ≡ true → ⊥) → Parts t a b
-parts_by true true true f p q d = absurd (d refl refl)
-parts_by true true false f p q d = first
-parts_by true false true f p q d = second
-parts_by true false false f p q d = elim (f refl) [ inl h ↦ absurd (false≢true h) | inr h ↦ absurd (false≢true h) ]
-parts_by false true b f p q d = absurd (false≢true (p refl))
-parts_by false false true f p q d = absurd (false≢true (q refl))
-parts_by false false false f p q d = neither
+pub parts_swap : {t a b : Bool} → Parts t a b → Parts t b a
+parts_swap first = second
+parts_swap second = first
+parts_swap neither = neither
+
+pub parts_first : (t a b : Bool) → t ≡ true → a ≡ true → b ≡ false → Parts t a b
+parts_first true true false p q r = first
+parts_first t a b p q r = cc
+
+pub parts_alone : (t : Bool) → Parts t t false
+parts_alone true = first
+parts_alone false = neither
+
+pub parts_or : (a b : Bool) → (a ≡ true → b ≡ true → ⊥) → Parts (a || b) a b
+parts_or true true d = absurd (d refl refl)
+parts_or true false d = first
+parts_or false true d = second
+parts_or false false d = neither
+
+pub parts_rest : (t a : Bool) → (a ≡ true → t ≡ true) → Parts t a (t && not a)
+parts_rest true true f = first
+parts_rest true false f = second
+parts_rest false true f = cc (f refl)
+parts_rest false false f = neither

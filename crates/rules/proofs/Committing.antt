@@ -2,15 +2,16 @@
 use Rattle.std.proofs.Common.{◌≡◌, ℕ, ◌<◌, true, List, ◌++◌, fold, sym, ap, ◌∙◌, subst, inl, inr, arith}
 use Rattle.std.specs.List.{AllByRecursion as All}
 use Rattle.std.proofs.lemmas.Bool.{eqb-true, eq-eqb}
+use Rattle.std.proofs.lemmas.Grind.{fold-append}
 use Rattle.rules.specs.declared.rows.Row.{Row}
 use Rattle.rules.specs.Entries.{stands, childless, elders, is_among, is_own_or_elder}
 use Rattle.rules.specs.FairCopy.{EachInTurn}
-use Rattle.rules.proofs.Exchanges.{Same, Laws, same_sym, same_end, same_rightly, right_front, right_append, folded_append, stays_ok, past_all}
-use Rattle.rules.proofs.Bools.{parts_by}
+use Rattle.rules.proofs.Exchanges.{Same, Laws, same_sym, same_end, same_rightly, right_front, right_append, stays_ok, past_all}
+use Rattle.rules.proofs.Bools.{parts_or}
 use Rattle.rules.proofs.Pairs.{Pairs, pairs_weaker, pairs_and, pairs_from}
-use Rattle.rules.proofs.Holdings.{Held, held, split, cross_held, CrossesBoth}
-use Rattle.rules.proofs.Numbers.{among_cases, among_more}
-use Rattle.rules.proofs.Kinship.{rest, stood, others, other_not, closed_others, kin_self, kin_childless, elder_below, among_elder}
+use Rattle.rules.proofs.Holdings.{Held, held, split, cross_held}
+use Rattle.rules.proofs.Numbers.{among_cases}
+use Rattle.rules.proofs.Kinship.{rest, stood, others, other_not, closed_others, kin_childless, elder_below, among_elder}
 use Rattle.rules.proofs.Standing.{Core, own, Ordered, left_of, held_ok, frame_rest, seen_rest, own_rest}
 
 module _ {V X : Type 0} {after : V → X → V} {Right : V → X → Type 0} {OkValue : V → Type 0} {OkItem : X → Type 0} {Cross : X → X → Type 0} (laws : Laws after Right OkValue OkItem Cross)
@@ -24,7 +25,7 @@ module _ {V X : Type 0} {after : V → X → V} {Right : V → X → Type 0} {Ok
     own_lines = held (own e) table
 
     facts : Pairs (λ g m. Ordered Cross rows g m × (Out e g m × Out e m g)) table
-    facts = pairs_and (Ordered Cross rows) (λ g m. Out e g m × Out e m g) table core.frame.order (pairs_from (Out e) table out)
+    facts = pairs_and _ _ table core.frame.order (pairs_from _ table out)
 
     not_own_elder : is_among (elders rows e) e ≡ true → ⊥
     not_own_elder h = let k : e < e = elder_below rows core.frame.grown (among_elder rows core.frame.grown e e h) in omega arith
@@ -32,14 +33,9 @@ module _ {V X : Type 0} {after : V → X → V} {Right : V → X → Type 0} {Ok
     -- its own lines may go first among those that it sees
     own_first : Same Cross (held (is_own_or_elder rows e) table) (own_lines ++ held (is_among (elders rows e)) table)
     own_first = split (is_own_or_elder rows e) (own e) (is_among (elders rows e))
-        (λ h. parts_by (is_own_or_elder rows e h) (own e h) (is_among (elders rows e) h)
-        (λ m. elim (among_cases h e (elders rows e) m) [ inl i ↦ inl (eq-eqb h e i) | inr k ↦ inr k ])
-        (λ m. subst (λ y. is_own_or_elder rows e y ≡ true) (sym (eqb-true h e m)) (kin_self rows core.frame.grown e))
-        (λ m. among_more h e (elders rows e) m)
-        (λ a b. not_own_elder (subst (λ y. is_among (elders rows e) y ≡ true) (eqb-true h e a) b)))
+        (λ h. parts_or (own e h) (is_among (elders rows e) h) (λ a b. not_own_elder (subst (λ y. is_among (elders rows e) y ≡ true) (eqb-true h e a) b)))
         table
-        (pairs_weaker (λ g. OkItem g.item) (λ g m. Ordered Cross rows g m × (Out e g m × Out e m g)) (λ g m. is_among (elders rows e) g.holder ≡ true → own e m.holder ≡ true → Cross g.item m.item)
-        (λ g m og om f b a. laws.symm m.item g.item (f.1.0 b a)) table core.frame.items_ok facts)
+        (pairs_weaker (λ g m f b a. laws.symm m.item g.item (f.1.0 b a)) table facts)
 
     own_right : EachInTurn after Right value own_lines
     own_right = right_front laws value own_lines (held (is_among (elders rows e)) table) (same_rightly laws own_first value core.value_ok (held_ok core.frame (is_own_or_elder rows e)) (core.sees e st))
@@ -53,19 +49,18 @@ module _ {V X : Type 0} {after : V → X → V} {Right : V → X → Type 0} {Ok
     abbrev pub committed_value : V
     committed_value = fold after value own_lines
 
-    only_own : (f : ℕ) → is_own_or_elder rows f e ≡ true → f ≡ e
-    only_own f h = kin_childless rows core.frame.grown e f ch h
+    only_own : (f h : ℕ) → own e h ≡ true → is_own_or_elder rows f h ≡ true → f ≡ e
+    only_own f h a b = kin_childless rows core.frame.grown e f h ch (eqb-true h e a) b
 
     -- its lines cross all that another sees
     crosses_seen : (f : ℕ) → (f ≡ e → ⊥) → All (λ x. All (Cross x) (held (is_own_or_elder rows f) table)) own_lines
     crosses_seen f d =
-        let apart : (h : ℕ) → own e h ≡ true → is_own_or_elder rows f h ≡ true → ⊥ = λ h a b. d (only_own f (subst (λ y. is_own_or_elder rows f y ≡ true) (eqb-true h e a) b)) in
+        let apart : (h : ℕ) → own e h ≡ true → is_own_or_elder rows f h ≡ true → ⊥ = λ h a b. d (only_own f h a b) in
         cross_held Cross (own e) (is_own_or_elder rows f) apart table
-        (pairs_weaker (λ g. OkItem g.item) (λ g m. Ordered Cross rows g m × (Out e g m × Out e m g)) (CrossesBoth Cross (own e) (is_own_or_elder rows f))
-        (λ g m og om k. (
+        (pairs_weaker (λ g m k. (
           λ a b. elim k.0 [
             | inl c ↦ c
-            | inr h ↦ absurd (apart m.holder (eq-eqb m.holder e (only_own m.holder (subst (λ y. is_own_or_elder rows m.holder y ≡ true) (eqb-true g.holder e a) h))) b)
+            | inr h ↦ absurd (apart m.holder (eq-eqb m.holder e (only_own m.holder g.holder a h)) b)
           ],
           λ b a. elim k.0 [
             | inl c ↦ laws.symm g.item m.item c
@@ -75,7 +70,7 @@ module _ {V X : Type 0} {after : V → X → V} {Right : V → X → Type 0} {Ok
             ]
           ],
         ))
-        table core.frame.items_ok facts)
+        table facts)
 
     pub committed : Core after Right OkValue OkItem Cross first (rest (others e) rows) (left_of (others e) table) copies committed_value (fair ++ copies e)
     committed = record {
@@ -86,5 +81,5 @@ module _ {V X : Type 0} {after : V → X → V} {Right : V → X → Type 0} {Ok
           (past_all laws own_lines (held (is_own_or_elder rows f) table) value core.value_ok own_ok (held_ok core.frame (is_own_or_elder rows f)) (crosses_seen f (other_not e f so.1)) (core.sees f so.0)));
       copied = λ f s. (let so = stood (others e) rows f s in subst (Same Cross (copies f)) (sym (own_rest core.frame (others e) f so.1)) (core.copied f so.0));
       fair_right = right_append laws first fair (copies e) core.fair_right (subst (λ v. EachInTurn after Right v (copies e)) (sym core.fair_value) (same_rightly laws copy_is value core.value_ok own_ok own_right));
-      fair_value = folded_append after first fair (copies e) ∙ ap (λ v. fold after v (copies e)) core.fair_value ∙ sym (same_end laws copy_is value core.value_ok own_ok);
+      fair_value = fold-append after first fair (copies e) ∙ ap (λ v. fold after v (copies e)) core.fair_value ∙ sym (same_end laws copy_is value core.value_ok own_ok);
     }

@@ -1,17 +1,17 @@
 -- The copies of an entry's elders, eldest first, and then its own, come to what the entry sees.
 use Rattle.std.proofs.Common.{◌≡◌, ℕ, ◌<◌, ◌≤◌, true, List, [], ◌∷◌, fold, sym, subst, inl, inr, arith}
 use Rattle.std.specs.List.{AllByRecursion as All}
-use Rattle.std.proofs.lemmas.Bool.{eqb-true, eq-eqb}
+use Rattle.std.proofs.lemmas.Bool.{eqb-true}
 use Rattle.rules.specs.declared.rows.Row.{Row}
 use Rattle.rules.specs.Entries.{stands, elders, is_among, is_own_or_elder}
 use Rattle.rules.specs.FairCopy.{EachInTurn, last_named_first}
 use Rattle.rules.proofs.Exchanges.{Same, Laws, same_nil, same_trans, same_sym, same_left, same_right, same_end, same_rightly}
-use Rattle.rules.proofs.Bools.{parts_by}
+use Rattle.rules.proofs.Bools.{parts_swap, parts_or}
 use Rattle.rules.proofs.Pairs.{pairs_weaker}
 use Rattle.rules.proofs.Holdings.{Held, held, held_none, split}
-use Rattle.rules.proofs.Numbers.{Falls, among_self, among_more, among_cases, among_all, all_from_among}
+use Rattle.rules.proofs.Numbers.{Falls, among_all, all_from_among}
 use Rattle.rules.proofs.Kinship.{kin_falls, kin_stands, kin_below}
-use Rattle.rules.proofs.Standing.{Core, own, Ordered, held_ok}
+use Rattle.rules.proofs.Standing.{Core, own, held_ok}
 
 module _ {V X : Type 0} {after : V → X → V} {Right : V → X → Type 0} {OkValue : V → Type 0} {OkItem : X → Type 0} {Cross : X → X → Type 0} (laws : Laws after Right OkValue OkItem Cross)
     {first : V} {rows : List Row} {table : List (Held X)} {copies : ℕ → List X} {value : V} {fair : List X} (core : Core after Right OkValue OkItem Cross first rows table copies value fair) where
@@ -23,18 +23,13 @@ module _ {V X : Type 0} {after : V → X → V} {Right : V → X → Type 0} {Ok
       (same_trans (same_left (held (is_among es) table) (core.copied e s.0))
       (same_sym laws.symm
       (split (is_among (e ∷ es)) (is_among es) (own e)
-      (λ h. parts_by (is_among (e ∷ es) h) (is_among es h) (own e h)
-      (λ m. elim (among_cases h e es m) [ inl i ↦ inr (eq-eqb h e i) | inr k ↦ inl k ])
-      (λ m. among_more h e es m)
-      (λ m. subst (λ y. is_among (e ∷ es) y ≡ true) (sym (eqb-true h e m)) (among_self e es))
-      (λ a b. (let k : h < e = among_all (λ y. y < e) es f.0 h a in let j : h ≡ e = eqb-true h e b in omega arith)))
+      (λ h. parts_swap (parts_or (own e h) (is_among es h) (λ b a. (let k : h < e = among_all (λ y. y < e) es f.0 h a in let j : h ≡ e = eqb-true h e b in omega arith))))
       table
-      (pairs_weaker (λ g. OkItem g.item) (Ordered Cross rows) (λ g m. own e g.holder ≡ true → is_among es m.holder ≡ true → Cross g.item m.item)
-      (λ g m og om o b a. elim o [
+      (pairs_weaker (λ g m o b a. elim o [
         | inl c ↦ c
         | inr h ↦ absurd (let k : m.holder < e = among_all (λ y. y < e) es f.0 m.holder a in let j : g.holder ≡ e = eqb-true g.holder e b in let i : g.holder ≤ m.holder = kin_below rows core.frame.grown m.holder g.holder h in omega arith)
       ])
-      table core.frame.items_ok core.frame.order))))
+      table core.frame.order))))
 
   module _ (e : ℕ) (st : stands rows e ≡ true) where
     so_far_is : Same Cross (last_named_first copies (e ∷ elders rows e)) (held (is_own_or_elder rows e) table)

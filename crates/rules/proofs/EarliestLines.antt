@@ -1,13 +1,11 @@
 -- Lines found by a test: some line, and the earliest one.
-use Rattle.std.proofs.Common.{◌≡◌, ℕ, Bool, true, false, cond, List, [], ◌∷◌, ◌++◌, Some, Decides, sym, refl, ap, ◌∙◌, subst, inl, inr}
-use mathlib.Core.Bool.{false≢true}
+use Rattle.std.proofs.Common.{◌≡◌, ℕ, Bool, true, cond, List, [], ◌∷◌, ◌++◌, Some, Decides, refl, ap, ◌∙◌, inl, inr}
 use Rattle.std.specs.List.{AllByRecursion as All}
-use Rattle.std.proofs.lemmas.Bool.{or_cases, or_left, or_right}
+use Rattle.std.proofs.lemmas.Bool.{cond_both, both_ways, or_cases, or_left, or_right, false_from_ne_true}
+use Rattle.std.proofs.lemmas.Option.{same_Some}
 use Rattle.rules.specs.declared.lines.Line.{Line}
 use Rattle.rules.specs.Calls.{some_line, earliest_holder}
 use Rattle.rules.specs.TurnedAway.{Among, Earliest}
-use Rattle.rules.proofs.Bools.{false_by}
-use Rattle.rules.proofs.Options.{some_not_none, some_same}
 
 module _ {P : Type 0} where
   abbrev among_first : (x : Line P) (xs : List (Line P)) → Among x (x ∷ xs)
@@ -16,42 +14,43 @@ module _ {P : Type 0} where
   abbrev among_later : (x y : Line P) (xs : List (Line P)) → Among x xs → Among x (y ∷ xs)
   among_later x y xs a = record { before = y ∷ a.before; after = a.after; is_there = ap (λ l. y ∷ l) a.is_there }
 
-  pub some_among : (test : Line P → Bool) (ls : List (Line P)) → some_line test ls ≡ true → (l : Line P) × Among l ls × (test l ≡ true)
-  some_among test [] h = absurd (false≢true h)
-  some_among test (l ∷ ls) h = elim (or_cases (test l) (some_line test ls) h) [
-    | inl t ↦ (l, among_first l ls, t)
-    | inr u ↦ (let found = some_among test ls u in (found.0, among_later found.0 l ls found.1, found.2))
-  ]
-
-  some_at : (test : Line P → Bool) (before after : List (Line P)) (l : Line P) → test l ≡ true → some_line test (before ++ (l ∷ after)) ≡ true
-  some_at test [] after l t = or_left (test l) (some_line test after) t
-  some_at test (x ∷ before) after l t = or_right (test x) (some_line test (before ++ (l ∷ after))) (some_at test before after l t)
-
-  pub among_some : (test : Line P → Bool) (ls : List (Line P)) (l : Line P) → Among l ls → test l ≡ true → some_line test ls ≡ true
-  among_some test ls l a t = subst (λ xs. some_line test xs ≡ true) (sym a.is_there) (some_at test a.before a.after l t)
-
-  -- the earliest line that passes a test is the earliest of which the test says so
+  -- a line that passes a test is one of which the test says so, and the earliest is the earliest
   module _ (test : Line P → Bool) (Q : Line P → Type 0) (decides : (l : Line P) → Decides (test l) (Q l)) where
-    earliest_cond : (b : Bool) (l : Line P) (ls : List (Line P)) (h : ℕ) → test l ≡ b → (earliest_holder test ls ≡ Some h → Earliest Q ls h) → cond b (Some l.holder) (earliest_holder test ls) ≡ Some h → Earliest Q (l ∷ ls) h
-    earliest_cond true l ls h t later e = record { line = l; place = among_first l ls; has_it = (decides l).0 t; none_before = tt; its_holder = some_same e }
-    earliest_cond false l ls h t later e =
-        let found = later e in
+    some_among : (ls : List (Line P)) → some_line test ls ≡ true → (l : Line P) × Among l ls × Q l
+    some_among [] h = cc
+    some_among (l ∷ ls) h = elim (or_cases (test l) (some_line test ls) h) [
+      | inl t ↦ (l, among_first l ls, (decides l).0 t)
+      | inr u ↦ (let found = some_among ls u in (found.0, among_later found.0 l ls found.1, found.2))
+    ]
+
+    some_at : (before after : List (Line P)) (l : Line P) → Q l → some_line test (before ++ (l ∷ after)) ≡ true
+    some_at [] after l q = or_left (test l) (some_line test after) ((decides l).1 q)
+    some_at (x ∷ before) after l q = or_right (test x) (some_line test (before ++ (l ∷ after))) (some_at before after l q)
+
+    pub some_is : (ls : List (Line P)) → Decides (some_line test ls) ((l : Line P) × Among l ls × Q l)
+    some_is ls = (some_among ls, λ found. ap (some_line test) found.1.is_there ∙ some_at found.1.before found.1.after found.0 found.2)
+
+    pub earliest_is : (ls : List (Line P)) (h : ℕ) → earliest_holder test ls ≡ Some h → Earliest Q ls h
+    earliest_is [] h e = cc
+    earliest_is (l ∷ ls) h e =
+        cond_both (test l) (Some l.holder) (earliest_holder test ls) (λ o. o ≡ Some h → Earliest Q (l ∷ ls) h)
+        (λ t k. record { line = l; place = among_first l ls; has_it = (decides l).0 t; none_before = tt; its_holder = same_Some _ _ k })
+        (λ f k. (
+        let found = earliest_is ls h k in
         record {
           line = found.line;
           place = among_later found.line l ls found.place;
           has_it = found.has_it;
-          none_before = (λ q. false≢true (sym t ∙ (decides l).1 q), found.none_before);
+          none_before = (λ q. both_ways _ f ((decides l).1 q), found.none_before);
           its_holder = found.its_holder;
         }
-
-    pub earliest_is : (ls : List (Line P)) (h : ℕ) → earliest_holder test ls ≡ Some h → Earliest Q ls h
-    earliest_is [] h e = absurd (some_not_none h (sym e))
-    earliest_is (l ∷ ls) h e = earliest_cond (test l) l ls h refl (earliest_is ls h) e
+        ))
+        e
 
     found_at : (before after : List (Line P)) (l : Line P) → All (λ m. Q m → ⊥) before → Q l → earliest_holder test (before ++ (l ∷ after)) ≡ Some l.holder
     found_at [] after l none q = ap (λ b. cond b (Some l.holder) (earliest_holder test after)) ((decides l).1 q)
     found_at (m ∷ before) after l none q =
-        ap (λ b. cond b (Some m.holder) (earliest_holder test (before ++ (l ∷ after)))) (false_by (test m) (λ t. none.0 ((decides m).0 t)))
+        ap (λ b. cond b (Some m.holder) (earliest_holder test (before ++ (l ∷ after)))) (false_from_ne_true (test m) (λ t. none.0 ((decides m).0 t)))
         ∙ found_at before after l none.1 q
 
     pub earliest_found : (ls : List (Line P)) (h : ℕ) → Earliest Q ls h → earliest_holder test ls ≡ Some h

@@ -50,11 +50,6 @@ pub record Laws {V X : Type 0} (after : V → X → V) (Right : V → X → Type
   pub later : (v : V) (x y : X) → OkValue v → OkItem x → OkItem y → Cross x y → Right v x → Right (after v y) x
   pub earlier : (v : V) (x y : X) → OkValue v → OkItem x → OkItem y → Cross x y → Right (after v y) x → Right v x
 
-module _ {V X : Type 0} (after : V → X → V) where
-  pub folded_append : (v : V) (xs ys : List X) → fold after v (xs ++ ys) ≡ fold after (fold after v xs) ys
-  folded_append v [] ys = refl
-  folded_append v (x ∷ xs) ys = folded_append (after v x) xs ys
-
 module _ {V X : Type 0} {after : V → X → V} {Right : V → X → Type 0} {OkValue : V → Type 0} {OkItem : X → Type 0} {Cross : X → X → Type 0} (laws : Laws after Right OkValue OkItem Cross) where
   pub right_front : (v : V) (xs ys : List X) → EachInTurn after Right v (xs ++ ys) → EachInTurn after Right v xs
   right_front v [] ys r = tt

@@ -1,10 +1,10 @@
 -- The first no to a list of questions: it is one of them, and has the least number of those that are answered no.
-use Rattle.std.proofs.Common.{◌≡◌, ℕ, ◌<◌, ◌≤◌, Bool, true, false, ◌&&◌, ltb, ◌⊎◌, List, [], ◌∷◌, Some, None, Option, sym, refl, subst, inl, inr, arith}
+use Rattle.std.proofs.Common.{◌≡◌, ℕ, ◌<◌, ◌≤◌, Bool, true, false, ◌&&◌, ltb, ◌⊎◌, List, [], ◌∷◌, Some, None, Option, refl, subst, inl, inr, arith}
 use Rattle.std.proofs.lemmas.Bool.{ltb-true, and_parts}
+use Rattle.std.proofs.lemmas.Option.{same_Some}
 use Rattle.rules.specs.declared.refusals.Refusal.{Refusal}
 use Rattle.rules.specs.Refusals.{number_of}
 use Rattle.rules.specs.Calls.{ask, ask_holder, first_no}
-use Rattle.rules.proofs.Options.{some_not_none, some_same}
 
 module _ (No : Refusal → Type 0) where
   -- a question of number n, if answered no, says a refusal of that number which holds
@@ -12,12 +12,12 @@ module _ (No : Refusal → Type 0) where
   Tells q n = (refusal : Refusal) → q ≡ Some refusal → (number_of refusal ≡ n) × No refusal
 
   pub ask_tells : (b : Bool) (r : Refusal) → (b ≡ false → No r) → Tells (ask b r) (number_of r)
-  ask_tells true r f refusal h = absurd (some_not_none refusal (sym h))
-  ask_tells false r f refusal h = subst (λ x. (number_of x ≡ number_of r) × No x) (some_same h) (refl, f refl)
+  ask_tells true r f refusal h = cc
+  ask_tells false r f refusal h = subst (λ x. (number_of x ≡ number_of r) × No x) (same_Some _ _ h) (refl, f refl)
 
   pub holder_tells : (o : Option ℕ) (r : ℕ → Refusal) (n : ℕ) → ((h : ℕ) → number_of (r h) ≡ n) → ((h : ℕ) → o ≡ Some h → No (r h)) → Tells (ask_holder o r) n
-  holder_tells None r n number f refusal h = absurd (some_not_none refusal (sym h))
-  holder_tells (Some holder) r n number f refusal h = subst (λ x. (number_of x ≡ n) × No x) (some_same h) (number holder, f holder refl)
+  holder_tells None r n number f refusal h = cc
+  holder_tells (Some holder) r n number f refusal h = subst (λ x. (number_of x ≡ n) × No x) (same_Some _ _ h) (number holder, f holder refl)
 
   abbrev pub TellEach : List (Option Refusal) → List ℕ → Type 0
   TellEach [] [] = Unit {0}
@@ -26,7 +26,7 @@ module _ (No : Refusal → Type 0) where
   TellEach (q ∷ qs) (n ∷ ns) = Tells q n × TellEach qs ns
 
   pub first_says : (qs : List (Option Refusal)) (ns : List ℕ) → TellEach qs ns → (refusal : Refusal) → first_no qs ≡ Some refusal → No refusal
-  first_says [] ns tell refusal h = absurd (some_not_none refusal (sym h))
+  first_says [] ns tell refusal h = cc
   first_says (q ∷ qs) [] tell refusal h = absurd tell
   first_says (None ∷ qs) (n ∷ ns) tell refusal h = first_says qs ns tell.1 refusal h
   first_says (Some r ∷ qs) (n ∷ ns) tell refusal h = (tell.0 refusal h).1
@@ -60,7 +60,7 @@ pub first_least : (No : Refusal → Type 0) (qs : List (Option Refusal)) (ns : L
 first_least No [] ns tell rises other said refusal h = absurd said
 first_least No (q ∷ qs) [] tell rises other said refusal h = absurd tell
 first_least No (None ∷ qs) (n ∷ ns) tell rises other said refusal h = elim said [
-  | inl e ↦ absurd (some_not_none other (sym e))
+  | inl e ↦ cc
   | inr later ↦ first_least No qs ns tell.1 (and_parts (is_below n ns) (rise ns) rises).1 other later refusal h
 ]
 first_least No (Some r ∷ qs) (n ∷ ns) tell rises other said refusal h =
@@ -72,5 +72,5 @@ first_least No (Some r ∷ qs) (n ∷ ns) tell rises other said refusal h =
 
 pub none_said : (qs : List (Option Refusal)) → first_no qs ≡ None → (refusal : Refusal) → IsSaid refusal qs → ⊥
 none_said [] h refusal said = said
-none_said (None ∷ qs) h refusal said = elim said [ inl e ↦ some_not_none refusal (sym e) | inr later ↦ none_said qs h refusal later ]
-none_said (Some r ∷ qs) h refusal said = some_not_none r h
+none_said (None ∷ qs) h refusal said = elim said [ inl e ↦ cc | inr later ↦ none_said qs h refusal later ]
+none_said (Some r ∷ qs) h refusal said = cc

@@ -1,9 +1,11 @@
 -- A table of held things: what the holders that pass a test hold, in the table's order.
 use Rattle.std.proofs.Common.{◌≡◌, ℕ, Bool, true, false, cond, ◌&&◌, List, [], ◌∷◌, ◌++◌, map, filter, refl, ap}
 use Rattle.std.specs.List.{AllByRecursion as All}
+use Rattle.std.proofs.lemmas.Bool.{cond_both}
+use Rattle.std.proofs.ByRecursion.{All-weaker}
 use Rattle.rules.proofs.Exchanges.{Same, same_nil, same_cons, same_trans, same_past}
 use Rattle.rules.proofs.Bools.{Parts, first, second, neither}
-use Rattle.rules.proofs.Pairs.{Pairs, all_both, all_passed_cond}
+use Rattle.rules.proofs.Pairs.{Pairs, all_both}
 
 pub record Held (X : Type 0) : Type 0 where
   pub holder : ℕ
@@ -16,36 +18,31 @@ held t (g ∷ gs) = cond (t g.holder) (g.item ∷ held t gs) (held t gs)
 module _ {X : Type 0} where
   pub held_all : (P : X → Type 0) (t : ℕ → Bool) (gs : List (Held X)) → All (λ g. t g.holder ≡ true → P g.item) gs → All P (held t gs)
   held_all P t [] p = tt
-  held_all P t (g ∷ gs) p = all_passed_cond P (t g.holder) g.item (held t gs) p.0 (held_all P t gs p.1)
+  held_all P t (g ∷ gs) p = let on = held_all P t gs p.1 in cond_both (t g.holder) (g.item ∷ held t gs) (held t gs) (All P) (λ y. (p.0 y, on)) (λ n. on)
 
   pub held_none : (gs : List (Held X)) → held (λ h. false) gs ≡ []
   held_none [] = refl
   held_none (g ∷ gs) = held_none gs
 
-  cond_cons : (b c : Bool) (x : X) (xs ys : List X) → b ≡ c → xs ≡ ys → cond b (x ∷ xs) xs ≡ cond c (x ∷ ys) ys
-  cond_cons b c x xs ys e f = λ i. cond (e i) (x ∷ f i) (f i)
-
   pub held_agree : (t u : ℕ → Bool) (gs : List (Held X)) → All (λ g. t g.holder ≡ u g.holder) gs → held t gs ≡ held u gs
   held_agree t u [] p = refl
-  held_agree t u (g ∷ gs) p = cond_cons (t g.holder) (u g.holder) g.item (held t gs) (held u gs) p.0 (held_agree t u gs p.1)
+  held_agree t u (g ∷ gs) p = λ i. cond (p.0 i) (g.item ∷ held_agree t u gs p.1 i) (held_agree t u gs p.1 i)
 
   -- a table with something more at its end
-  held_put : (b : Bool) (x : X) (xs ys zs : List X) → xs ≡ ys ++ zs → cond b (x ∷ xs) xs ≡ cond b (x ∷ ys) ys ++ zs
-  held_put true x xs ys zs e = ap (λ w. x ∷ w) e
-  held_put false x xs ys zs e = e
-
-  pub held_push : (t : ℕ → Bool) (gs : List (Held X)) (m : Held X) → held t (gs ++ (m ∷ [])) ≡ held t gs ++ cond (t m.holder) (m.item ∷ []) []
+  pub held_push : (t : ℕ → Bool) (gs : List (Held X)) (m : Held X) → held t (gs ++ (m ∷ [])) ≡ held t gs ++ held t (m ∷ [])
   held_push t [] m = refl
-  held_push t (g ∷ gs) m = held_put (t g.holder) g.item (held t (gs ++ (m ∷ []))) (held t gs) (cond (t m.holder) (m.item ∷ []) []) (held_push t gs m)
+  held_push t (g ∷ gs) m =
+      elim (t g.holder) as (λ b. cond b (g.item ∷ held t (gs ++ (m ∷ []))) (held t (gs ++ (m ∷ []))) ≡ cond b (g.item ∷ held t gs) (held t gs) ++ held t (m ∷ []))
+      [ true ↦ ap (λ w. g.item ∷ w) (held_push t gs m) | false ↦ held_push t gs m ]
 
   -- only some holders' things left
-  held_drop : (t : ℕ → Bool) (b : Bool) (g : Held X) (gs : List (Held X)) (xs : List X) → held t gs ≡ xs → held t (cond b (g ∷ gs) gs) ≡ cond (b && t g.holder) (g.item ∷ xs) xs
-  held_drop t true g gs xs e = λ i. cond (t g.holder) (g.item ∷ e i) (e i)
-  held_drop t false g gs xs e = e
-
   pub held_kept : (k t : ℕ → Bool) (gs : List (Held X)) → held t (filter (λ g. k g.holder) gs) ≡ held (λ h. k h && t h) gs
   held_kept k t [] = refl
-  held_kept k t (g ∷ gs) = held_drop t (k g.holder) g (filter (λ g. k g.holder) gs) (held (λ h. k h && t h) gs) (held_kept k t gs)
+  held_kept k t (g ∷ gs) =
+      let kept = filter (λ m. k m.holder) gs in
+      let left = held (λ h. k h && t h) gs in
+      elim (k g.holder) as (λ b. held t (cond b (g ∷ kept) kept) ≡ cond (b && t g.holder) (g.item ∷ left) left)
+      [ true ↦ ap (λ xs. cond (t g.holder) (g.item ∷ xs) xs) (held_kept k t gs) | false ↦ held_kept k t gs ]
 
   -- holders renamed
   abbrev pub renamed : (ℕ → ℕ) → List (Held X) → List (Held X)
@@ -53,7 +50,7 @@ module _ {X : Type 0} where
 
   pub held_renamed : (f : ℕ → ℕ) (t : ℕ → Bool) (gs : List (Held X)) → held t (renamed f gs) ≡ held (λ h. t (f h)) gs
   held_renamed f t [] = refl
-  held_renamed f t (g ∷ gs) = cond_cons (t (f g.holder)) (t (f g.holder)) g.item (held t (renamed f gs)) (held (λ h. t (f h)) gs) refl (held_renamed f t gs)
+  held_renamed f t (g ∷ gs) = ap (λ xs. cond (t (f g.holder)) (g.item ∷ xs) xs) (held_renamed f t gs)
 
 module _ {X : Type 0} {Cross : X → X → Type 0} where
   split_step : {t a b : Bool} → Parts t a b → (x : X) (ts us ws : List X) → (b ≡ true → All (Cross x) us) → Same Cross ts (us ++ ws) → Same Cross (cond t (x ∷ ts) ts) (cond a (x ∷ us) us ++ cond b (x ∷ ws) ws)
@@ -66,14 +63,14 @@ module _ {X : Type 0} {Cross : X → X → Type 0} where
   split t a b parts [] p = same_nil
   split t a b parts (g ∷ gs) p =
       split_step (parts g.holder) g.item (held t gs) (held a gs) (held b gs)
-      (λ e. held_all (Cross g.item) a gs (all_both (λ m. b g.holder ≡ true → a m.holder ≡ true → Cross g.item m.item) (λ m. b g.holder ≡ true → a m.holder ≡ true → Cross g.item m.item) (λ m. a m.holder ≡ true → Cross g.item m.item) (λ m u w. u e) gs p.0 p.0))
+      (λ e. held_all _ a gs (All-weaker _ _ (λ m u. u e) gs p.0))
       (split t a b parts gs p.1)
 
 module _ {X : Type 0} (Cross : X → X → Type 0) where
   cross_step : (a b : Bool) (x : X) (us ws : List X) → (a ≡ true → b ≡ true → ⊥) → (a ≡ true → All (Cross x) ws) → (b ≡ true → All (λ y. Cross y x) us) → All (λ y. All (Cross y) ws) us → All (λ y. All (Cross y) (cond b (x ∷ ws) ws)) (cond a (x ∷ us) us)
   cross_step true true x us ws d f k r = absurd (d refl refl)
   cross_step true false x us ws d f k r = (f refl, r)
-  cross_step false true x us ws d f k r = all_both (λ y. Cross y x) (λ y. All (Cross y) ws) (λ y. Cross y x × All (Cross y) ws) (λ y u w. (u, w)) us (k refl) r
+  cross_step false true x us ws d f k r = all_both (λ y u w. (u, w)) us (k refl) r
   cross_step false false x us ws d f k r = r
 
   -- where two lots cross, whichever stands first
@@ -84,6 +81,6 @@ module _ {X : Type 0} (Cross : X → X → Type 0) where
   cross_held a b d [] p = tt
   cross_held a b d (g ∷ gs) p =
       cross_step (a g.holder) (b g.holder) g.item (held a gs) (held b gs) (d g.holder)
-      (λ e. held_all (Cross g.item) b gs (all_both (CrossesBoth a b g) (CrossesBoth a b g) (λ m. b m.holder ≡ true → Cross g.item m.item) (λ m u w. u.0 e) gs p.0 p.0))
-      (λ e. held_all (λ y. Cross y g.item) a gs (all_both (CrossesBoth a b g) (CrossesBoth a b g) (λ m. a m.holder ≡ true → Cross m.item g.item) (λ m u w. u.1 e) gs p.0 p.0))
+      (λ e. held_all _ b gs (All-weaker _ _ (λ m u. u.0 e) gs p.0))
+      (λ e. held_all _ a gs (All-weaker _ _ (λ m u. u.1 e) gs p.0))
       (cross_held a b d gs p.1)

@@ -1,13 +1,17 @@
 -- Who is whose elder, by what is looked up of the standing entries: the order of their rows makes no difference.
-use Rattle.std.proofs.Common.{◌≡◌, ℕ, zero, suc, ◌<◌, ◌≤◌, Bool, true, false, cond, not, eqb, ◌⊎◌, List, [], ◌∷◌, ◌++◌, Decides, filter, sym, refl, ap, ◌∙◌, subst, inl, inr, arith}
-use mathlib.Core.Bool.{false≢true}
-use Rattle.std.proofs.lemmas.Bool.{eqb-true, eqb-false, eq-eqb, ne_eqb, or_cases, or_left, or_right, cases_Bool, cases_eq, and_parts, not-true}
+use Rattle.std.proofs.Common.{◌≡◌, ℕ, zero, suc, ◌<◌, ◌≤◌, Bool, true, false, cond, not, ◌&&◌, ◌||◌, eqb, ◌⊎◌, List, [], ◌∷◌, ◌++◌, Decides, filter, sym, refl, ap, ◌∙◌, subst, inl, inr, arith}
+use Rattle.std.specs.List.{list_any}
+use Rattle.std.proofs.lemmas.List.Recursion.{same_from_clauses, or_push, found_push_other}
+use Rattle.std.proofs.lemmas.Map.Views.{any-filter_same}
+use Rattle.std.proofs.lemmas.Bool.{cond_both, cond-true, cond-false, eqb-true, eqb-false, eq-eqb, ne_eqb, or_cases, or_left, or_right, cases_Bool, cases_eq, and_parts, and_from, not-true, not_from_false, false_from_ne_true, both_ways}
 use Rattle.rules.specs.declared.rows.Row.{Row}
 use Rattle.rules.specs.Entries.{stands, childless, parent_of, Elder, its_parent, of_its_parent, up_from, elders, is_among, is_own_or_elder}
-use Rattle.rules.proofs.Bools.{not_by, not_so}
 use Rattle.rules.proofs.Numbers.{among_self, among_more, among_cases, all_from_among, Falls}
 
 -- ---- look-ups in rows
+
+stands_any : (rows : List Row) (e : ℕ) → stands rows e ≡ list_any (λ r. eqb r.entry e) rows
+stands_any rows e = same_from_clauses (λ rs. stands rs e) (list_any (λ r. eqb r.entry e)) (λ r b. eqb r.entry e || b) refl (λ r rs. refl) (λ r rs. refl) rows
 
 pub stands_own : (r : Row) (rows : List Row) (e : ℕ) → r.entry ≡ e → stands (r ∷ rows) e ≡ true
 stands_own r rows e s = or_left (eqb r.entry e) (stands rows e) (eq-eqb r.entry e s)
@@ -19,25 +23,36 @@ pub stands_cases : (r : Row) (rows : List Row) (e : ℕ) → stands (r ∷ rows)
 stands_cases r rows e h = elim (or_cases (eqb r.entry e) (stands rows e) h) [ inl k ↦ inl (eqb-true r.entry e k) | inr k ↦ inr k ]
 
 pub parent_own : (r : Row) (rows : List Row) (e : ℕ) → r.entry ≡ e → parent_of (r ∷ rows) e ≡ r.parent
-parent_own r rows e h = rw (eq-eqb r.entry e h)
+parent_own r rows e h = cond-true _ _ _ (eq-eqb r.entry e h)
 
 pub parent_other : (r : Row) (rows : List Row) (e : ℕ) → (r.entry ≡ e → ⊥) → parent_of (r ∷ rows) e ≡ parent_of rows e
-parent_other r rows e h = rw (ne_eqb r.entry e h)
+parent_other r rows e h = cond-false _ _ _ (ne_eqb r.entry e h)
 
 -- who does not stand has no parent
 pub parent_none : (rows : List Row) (e : ℕ) → (stands rows e ≡ true → ⊥) → parent_of rows e ≡ 0
 parent_none [] e d = refl
 parent_none (r ∷ rows) e d = parent_other r rows e (λ i. d (stands_own r rows e i)) ∙ parent_none rows e (λ s. d (stands_more r rows e s))
 
+stands_or_top : (rows : List Row) (e : ℕ) → (stands rows e ≡ true) ⊎ (parent_of rows e ≡ 0)
+stands_or_top rows e = elim (cases_Bool (stands rows e)) [ inl s ↦ inl s | inr s ↦ inr (parent_none rows e (both_ways _ s)) ]
+
+-- a look-up among what passes the test k, of something that passes it
+pub found_left : {G Y : Type 0} (F : List G → Y) (is : G → Bool) (value : G → Y) → ((g : G) (gs : List G) → F (g ∷ gs) ≡ cond (is g) (value g) (F gs))
+    → (k : G → Bool) → ((g : G) → is g ≡ true → k g ≡ true) → (gs : List G) → F (filter k gs) ≡ F gs
+found_left F is value step k passes [] = refl
+found_left F is value step k passes (g ∷ gs) =
+    let on = found_left F is value step k passes gs in
+    cond_both (k g) (g ∷ filter k gs) (filter k gs) (λ l. F l ≡ F (g ∷ gs))
+    (λ t. step g (filter k gs) ∙ ap (cond (is g) (value g)) on ∙ sym (step g gs))
+    (λ f. on ∙ sym (step g gs ∙ cond-false _ _ _ (false_from_ne_true _ (λ i. both_ways _ f (passes g i)))))
+
 -- who has no standing child is no one's parent
 pub no_child : (rows : List Row) (e f : ℕ) → childless rows e ≡ true → stands rows f ≡ true → parent_of rows f ≡ e → ⊥
-no_child [] e f c s i = absurd (false≢true s)
+no_child [] e f c s i = cc
 no_child (r ∷ rows) e f c s i =
     let cs = and_parts (not (eqb r.parent e)) (childless rows e) c in
-    elim (cases_eq r.entry f) [
-      | inl o ↦ eqb-false r.parent e (not-true (eqb r.parent e) cs.0) (sym (parent_own r rows f o) ∙ i)
-      | inr d ↦ elim (stands_cases r rows f s) [ inl o ↦ d o | inr t ↦ no_child rows e f cs.1 t (sym (parent_other r rows f d) ∙ i) ]
-    ]
+    elim (eqb r.entry f) as (λ b. (b || stands rows f) ≡ true → cond b r.parent (parent_of rows f) ≡ e → ⊥)
+    [ true ↦ λ t. eqb-false r.parent e (not-true _ cs.0) | false ↦ λ t. no_child rows e f cs.1 t ] s i
 
 -- ---- rows as begins make them
 
@@ -52,25 +67,33 @@ pub record Grown (rows : List Row) : Type 0 where
 -- no parent: the way up ends
 up_top : (rows : List Row) (n e : ℕ) → parent_of rows e ≡ 0 → up_from n rows e ≡ []
 up_top rows zero e h = refl
-up_top rows (suc n) e h = ap (λ b. cond b [] (parent_of rows e ∷ up_from n rows (parent_of rows e))) (eq-eqb (parent_of rows e) 0 h)
+up_top rows (suc n) e h = cond-true _ _ _ (eq-eqb (parent_of rows e) 0 h)
 
 up_inner : (rows : List Row) (n e : ℕ) → (parent_of rows e ≡ 0 → ⊥) → up_from (suc n) rows e ≡ parent_of rows e ∷ up_from n rows (parent_of rows e)
-up_inner rows n e d = ap (λ b. cond b [] (parent_of rows e ∷ up_from n rows (parent_of rows e))) (ne_eqb (parent_of rows e) 0 d)
+up_inner rows n e d = cond-false _ _ _ (ne_eqb (parent_of rows e) 0 d)
 
 pub elders_top : (rows : List Row) (e : ℕ) → parent_of rows e ≡ 0 → elders rows e ≡ []
 elders_top rows e h = up_top rows e e h
 
 -- whom the list names is an elder
 up_elder : (rows : List Row) (n e x : ℕ) → is_among (up_from n rows e) x ≡ true → Elder rows x e
-up_elder rows zero e x h = absurd (false≢true h)
+up_elder rows zero e x h = cc
 up_elder rows (suc n) e x h =
     let q = parent_of rows e in
-    elim (cases_eq q 0) [
-      | inl z ↦ absurd (false≢true (subst (λ l. is_among l x ≡ true) (up_top rows (suc n) e z) h))
-      | inr d ↦ elim (among_cases x q (up_from n rows q) (subst (λ l. is_among l x ≡ true) (up_inner rows n e d) h)) [
-        | inl i ↦ its_parent (sym i) (λ z. d (sym i ∙ z))
-        | inr k ↦ of_its_parent (up_elder rows n q x k)
-      ]
+    cond_both (eqb q 0) [] (q ∷ up_from n rows q) (λ l. is_among l x ≡ true → Elder rows x e)
+    (λ z m. cc)
+    (λ d m. elim (among_cases x q (up_from n rows q) m) [ inl i ↦ its_parent (sym i) (λ z. eqb-false q 0 d (sym i ∙ z)) | inr k ↦ of_its_parent (up_elder rows n q x k) ])
+    h
+
+-- where the parents are the same of all of whom Q holds, and Q holds of the parents too, the ways up are the same
+up_agree : (other rows : List Row) (Q : ℕ → Type 0) → ((e : ℕ) → Q e → parent_of other e ≡ parent_of rows e) → ((e : ℕ) → Q e → (parent_of rows e ≡ 0) ⊎ Q (parent_of rows e))
+    → (n e : ℕ) → Q e → up_from n other e ≡ up_from n rows e
+up_agree other rows Q same up zero e k = refl
+up_agree other rows Q same up (suc n) e k =
+    let q = parent_of rows e in
+    elim (up e k) [
+      | inl z ↦ up_top other (suc n) e (same e k ∙ z) ∙ sym (up_top rows (suc n) e z)
+      | inr l ↦ ap (λ x. cond (eqb x 0) [] (x ∷ up_from n other x)) (same e k) ∙ ap (λ xs. cond (eqb q 0) [] (q ∷ xs)) (up_agree other rows Q same up n q l)
     ]
 
 pub elder_trans : {rows : List Row} {x y e : ℕ} → Elder rows x y → Elder rows y e → Elder rows x e
@@ -79,10 +102,7 @@ elder_trans h (of_its_parent k) = of_its_parent (elder_trans h k)
 
 module _ (rows : List Row) (g : Grown rows) where
   parent_falls : (e : ℕ) → (parent_of rows e ≡ 0) ⊎ (parent_of rows e < e)
-  parent_falls e = elim (cases_Bool (stands rows e)) [
-    | inl s ↦ inr (g.falls e s)
-    | inr s ↦ inl (parent_none rows e (λ t. false≢true (sym s ∙ t)))
-  ]
+  parent_falls e = elim (stands_or_top rows e) [ inl s ↦ inr (g.falls e s) | inr z ↦ inl z ]
 
   parent_of_zero : parent_of rows 0 ≡ 0
   parent_of_zero = parent_none rows 0 g.zero_free
@@ -112,8 +132,7 @@ module _ (rows : List Row) (g : Grown rows) where
   -- an elder is named by the list
   pub elder_among : {x e : ℕ} → Elder rows x e → is_among (elders rows e) x ≡ true
   elder_among {x} {e} (its_parent i z) =
-      subst (λ l. is_among l x ≡ true) (sym (elders_inner e (λ w. z (sym i ∙ w))))
-      (subst (λ y. is_among (parent_of rows e ∷ elders rows (parent_of rows e)) y ≡ true) i (among_self (parent_of rows e) (elders rows (parent_of rows e))))
+      subst (λ l. is_among l x ≡ true) (sym (elders_inner e (λ w. z (sym i ∙ w)))) (or_left _ _ (eq-eqb x (parent_of rows e) (sym i)))
   elder_among {x} {e} (of_its_parent k) =
       subst (λ l. is_among l x ≡ true) (sym (elders_inner e (λ w. no_elder_of_zero w k)))
       (among_more x (parent_of rows e) (elders rows (parent_of rows e)) (elder_among k))
@@ -133,10 +152,7 @@ module _ (rows : List Row) (g : Grown rows) where
   elder_stands (of_its_parent k) = elder_stands k
 
   pub childless_no_elder : {x e : ℕ} → childless rows x ≡ true → Elder rows x e → ⊥
-  childless_no_elder {x} {e} c (its_parent i z) = elim (cases_Bool (stands rows e)) [
-    | inl s ↦ no_child rows x e c s i
-    | inr s ↦ z (sym i ∙ parent_none rows e (λ t. false≢true (sym s ∙ t)))
-  ]
+  childless_no_elder {x} {e} c (its_parent i z) = elim (stands_or_top rows e) [ inl s ↦ no_child rows x e c s i | inr w ↦ z (sym i ∙ w) ]
   childless_no_elder c (of_its_parent k) = childless_no_elder c k
 
   -- ---- an entry and its elders
@@ -166,20 +182,17 @@ module _ (rows : List Row) (g : Grown rows) where
   kin_stands e x s h = elim (kin_cases e x h) [ inl i ↦ subst (λ y. stands rows y ≡ true) (sym i) s | inr k ↦ elder_stands k ]
 
   -- who has no child is no other's elder
-  pub kin_childless : (e f : ℕ) → childless rows e ≡ true → is_own_or_elder rows f e ≡ true → f ≡ e
-  kin_childless e f c h = elim (kin_cases f e h) [ inl i ↦ sym i | inr k ↦ absurd (childless_no_elder c k) ]
+  pub kin_childless : (e f h : ℕ) → childless rows e ≡ true → h ≡ e → is_own_or_elder rows f h ≡ true → f ≡ e
+  kin_childless e f h c i m = elim (kin_cases f h m) [ inl j ↦ sym j ∙ i | inr k ↦ absurd (childless_no_elder (ap (childless rows) i ∙ c) k) ]
 
-  up_falls : (n e : ℕ) → Falls (up_from n rows e)
-  up_falls zero e = tt
+  up_falls : (n e : ℕ) → Falls (e ∷ up_from n rows e)
+  up_falls zero e = (tt, tt)
   up_falls (suc n) e =
       let q = parent_of rows e in
-      elim (cases_eq q 0) [
-        | inl z ↦ subst Falls (sym (up_top rows (suc n) e z)) tt
-        | inr d ↦ subst Falls (sym (up_inner rows n e d)) (all_from_among (λ y. y < q) (up_from n rows q) (λ y h. elder_below (up_elder rows n q y h)), up_falls n q)
-      ]
+      (all_from_among (λ y. y < e) (up_from (suc n) rows e) (λ y h. elder_below (up_elder rows (suc n) e y h)), cond_both (eqb q 0) [] (q ∷ up_from n rows q) Falls (λ z. tt) (λ d. up_falls n q))
 
   pub kin_falls : (e : ℕ) → Falls (e ∷ elders rows e)
-  kin_falls e = (all_from_among (λ y. y < e) (elders rows e) (λ y h. elder_below (among_elder e y h)), up_falls e e)
+  kin_falls e = up_falls e e
 
 -- ---- entries end: those that pass the test k are left
 
@@ -187,87 +200,55 @@ module _ (k : ℕ → Bool) where
   abbrev pub rest : List Row → List Row
   rest rows = filter (λ r. k r.entry) rows
 
-  parent_cond : (b : Bool) (r : Row) (rows : List Row) (e : ℕ) → (r.entry ≡ e → ⊥) → parent_of (cond b (r ∷ rows) rows) e ≡ parent_of rows e
-  parent_cond true r rows e d = parent_other r rows e d
-  parent_cond false r rows e d = refl
+  parent_rest : (rows : List Row) (e : ℕ) → k e ≡ true → parent_of (rest rows) e ≡ parent_of rows e
+  parent_rest rows e h = found_left (λ rs. parent_of rs e) (λ r. eqb r.entry e) (λ r. r.parent) (λ r rs. refl) (λ r. k r.entry) (λ r t. ap k (eqb-true r.entry e t) ∙ h) rows
 
-  pub parent_rest : (rows : List Row) (e : ℕ) → k e ≡ true → parent_of (rest rows) e ≡ parent_of rows e
-  parent_rest [] e h = refl
-  parent_rest (r ∷ rows) e h = elim (cases_eq r.entry e) [
-    | inl i ↦ ap (λ b. parent_of (cond b (r ∷ rest rows) (rest rows)) e) (ap k i ∙ h) ∙ parent_own r (rest rows) e i ∙ sym (parent_own r rows e i)
-    | inr d ↦ parent_cond (k r.entry) r (rest rows) e d ∙ parent_rest rows e h ∙ sym (parent_other r rows e d)
-  ]
-
-  stands_cond : (b : Bool) (r : Row) (rows : List Row) (e : ℕ) → (r.entry ≡ e → b ≡ true) → (r.entry ≡ e) ⊎ (stands rows e ≡ true) → stands (cond b (r ∷ rows) rows) e ≡ true
-  stands_cond true r rows e f (inl s) = stands_own r rows e s
-  stands_cond true r rows e f (inr s) = stands_more r rows e s
-  stands_cond false r rows e f (inl s) = absurd (false≢true (f s))
-  stands_cond false r rows e f (inr s) = s
+  stands_left : (rows : List Row) (e : ℕ) → stands (rest rows) e ≡ (k e && stands rows e)
+  stands_left rows e = stands_any (rest rows) e ∙ any-filter_same (λ r. eqb r.entry e) (λ r. k r.entry) (k e) (λ r t. ap k (eqb-true r.entry e t)) rows ∙ ap (λ b. k e && b) (sym (stands_any rows e))
 
   pub stands_rest : (rows : List Row) (e : ℕ) → stands rows e ≡ true → k e ≡ true → stands (rest rows) e ≡ true
-  stands_rest [] e s h = s
-  stands_rest (r ∷ rows) e s h =
-      stands_cond (k r.entry) r (rest rows) e (λ i. ap k i ∙ h)
-      (elim (stands_cases r rows e s) [ inl i ↦ inl i | inr i ↦ inr (stands_rest rows e i h) ])
-
-  stood_cond : (b : Bool) (r : Row) (rows all : List Row) (e : ℕ) → (b ≡ true → k r.entry ≡ true) → (stands rows e ≡ true → (stands all e ≡ true) × (k e ≡ true)) → stands (cond b (r ∷ rows) rows) e ≡ true → (stands (r ∷ all) e ≡ true) × (k e ≡ true)
-  stood_cond true r rows all e o f s = elim (stands_cases r rows e s) [ inl i ↦ (stands_own r all e i, sym (ap k i) ∙ o refl) | inr i ↦ (stands_more r all e (f i).0, (f i).1) ]
-  stood_cond false r rows all e o f s = (stands_more r all e (f s).0, (f s).1)
+  stands_rest rows e s h = stands_left rows e ∙ and_from (k e) (stands rows e) h s
 
   -- who is left stood before
   pub stood : (rows : List Row) (e : ℕ) → stands (rest rows) e ≡ true → (stands rows e ≡ true) × (k e ≡ true)
-  stood [] e s = absurd (false≢true s)
-  stood (r ∷ rows) e s = stood_cond (k r.entry) r (rest rows) rows e (λ h. h) (stood rows e) s
-
-  up_rest : (rows : List Row) (n e : ℕ) → k e ≡ true → ((x : ℕ) → is_among (up_from n rows e) x ≡ true → k x ≡ true) → up_from n (rest rows) e ≡ up_from n rows e
-  up_rest rows zero e h f = refl
-  up_rest rows (suc n) e h f =
-      let q = parent_of rows e in
-      let same : parent_of (rest rows) e ≡ q = parent_rest rows e h in
-      elim (cases_eq q 0) [
-        | inl z ↦ up_top (rest rows) (suc n) e (same ∙ z) ∙ sym (up_top rows (suc n) e z)
-        | inr d ↦
-            let named : (x : ℕ) → is_among (q ∷ up_from n rows q) x ≡ true → k x ≡ true = λ x m. f x (subst (λ l. is_among l x ≡ true) (sym (up_inner rows n e d)) m) in
-            ap (λ p. cond (eqb p 0) [] (p ∷ up_from n (rest rows) p)) same
-            ∙ ap (λ l. cond (eqb q 0) [] (q ∷ l)) (up_rest rows n q (named q (among_self q (up_from n rows q))) (λ x m. named x (among_more x q (up_from n rows q) m)))
-      ]
+  stood rows e s = let both = and_parts (k e) (stands rows e) (sym (stands_left rows e) ∙ s) in (both.1, both.0)
 
   -- who passes the test stays, and so do all its elders
   abbrev pub Closed : List Row → Type 0
   Closed rows = (e x : ℕ) → k e ≡ true → is_own_or_elder rows e x ≡ true → k x ≡ true
 
-  pub elders_rest : (rows : List Row) → Closed rows → (e : ℕ) → k e ≡ true → elders (rest rows) e ≡ elders rows e
-  elders_rest rows closed e h = up_rest rows e e h (λ x m. closed e x h (among_more x e (elders rows e) m))
+  module _ (rows : List Row) (g : Grown rows) (closed : Closed rows) where
+    stays_rooted : (e : ℕ) → k e ≡ true → (parent_of rows e ≡ 0) ⊎ (k (parent_of rows e) ≡ true)
+    stays_rooted e h = elim (cases_eq (parent_of rows e) 0) [ inl z ↦ inl z | inr d ↦ inr (closed e (parent_of rows e) h (kin_elder rows g (its_parent refl d))) ]
 
-  pub grown_rest : (rows : List Row) → Grown rows → Closed rows → Grown (rest rows)
-  grown_rest rows g closed = record {
-    zero_free = λ s. g.zero_free (stood rows 0 s).0;
-    falls = λ e s. (let so = stood rows e s in subst (λ q. q < e) (sym (parent_rest rows e so.1)) (g.falls e so.0));
-    rooted = λ e. elim (cases_Bool (stands (rest rows) e)) [
-      | inr s ↦ inl (parent_none (rest rows) e (λ t. false≢true (sym s ∙ t)))
-      | inl s ↦
-          let so = stood rows e s in
-          let q = parent_of rows e in
-          subst (λ p. (p ≡ 0) ⊎ (stands (rest rows) p ≡ true)) (sym (parent_rest rows e so.1))
-          (elim (cases_eq q 0) [
-            | inl z ↦ inl z
-            | inr d ↦ elim (g.rooted e) [
+    pub elders_rest : (e : ℕ) → k e ≡ true → elders (rest rows) e ≡ elders rows e
+    elders_rest e h = up_agree (rest rows) rows (λ x. k x ≡ true) (parent_rest rows) stays_rooted e e h
+
+    pub grown_rest : Grown (rest rows)
+    grown_rest = record {
+      zero_free = λ s. g.zero_free (stood rows 0 s).0;
+      falls = λ e s. (let so = stood rows e s in subst (λ q. q < e) (sym (parent_rest rows e so.1)) (g.falls e so.0));
+      rooted = λ e. elim (stands_or_top (rest rows) e) [
+        | inr z ↦ inl z
+        | inl s ↦
+            let so = stood rows e s in
+            subst (λ p. (p ≡ 0) ⊎ (stands (rest rows) p ≡ true)) (sym (parent_rest rows e so.1))
+            (elim (stays_rooted e so.1) [
               | inl z ↦ inl z
-              | inr t ↦ inr (stands_rest rows q t (closed e q so.1 (kin_elder rows g (its_parent refl d))))
-            ]
-          ])
-    ];
-  }
+              | inr h ↦ elim (g.rooted e) [ inl z ↦ inl z | inr t ↦ inr (stands_rest rows (parent_of rows e) t h) ]
+            ])
+      ];
+    }
 
 -- who is not e
 abbrev pub others : ℕ → ℕ → Bool
 others e x = not (eqb x e)
 
 pub not_other : (e x : ℕ) → (x ≡ e → ⊥) → others e x ≡ true
-not_other e x d = not_by (eqb x e) (λ h. d (eqb-true x e h))
+not_other e x d = not_from_false (eqb x e) (ne_eqb x e d)
 
 pub other_not : (e x : ℕ) → others e x ≡ true → x ≡ e → ⊥
-other_not e x o i = not_so (eqb x e) o (eq-eqb x e i)
+other_not e x o = eqb-false x e (not-true (eqb x e) o)
 
 -- who is neither e nor inside it
 abbrev pub is_outside : List Row → ℕ → ℕ → Bool
@@ -276,11 +257,11 @@ is_outside rows e f = not (is_own_or_elder rows f e)
 module _ (rows : List Row) (g : Grown rows) (e : ℕ) where
   -- with an entry that stays its elders stay, where one without children ends ..
   pub closed_others : childless rows e ≡ true → Closed (others e) rows
-  closed_others ch f x k m = not_other e x (λ i. other_not e f k (kin_childless rows g e f ch (subst (λ y. is_own_or_elder rows f y ≡ true) i m)))
+  closed_others ch f x k m = not_other e x (λ i. other_not e f k (kin_childless rows g e f x ch i m))
 
   -- .. and where one ends with all that are inside it
   pub closed_outside : Closed (is_outside rows e) rows
-  closed_outside f x k m = not_by (is_own_or_elder rows x e) (λ h. not_so (is_own_or_elder rows f e) k (kin_trans rows g f x e m h))
+  closed_outside f x k m = not_from_false _ (false_from_ne_true _ (λ h. both_ways _ (not-true _ k) (kin_trans rows g f x e m h)))
 
 -- ---- a new entry stands under q
 
@@ -291,87 +272,57 @@ module _ (rows : List Row) (n q : ℕ) (above : (e : ℕ) → stands rows e ≡ 
   abbrev pub joined : List Row
   joined = rows ++ (new ∷ [])
 
-  push_old : (rs : List Row) (e : ℕ) → stands rs e ≡ true → stands (rs ++ (new ∷ [])) e ≡ true
-  push_old [] e s = absurd (false≢true s)
-  push_old (r ∷ rs) e s = elim (stands_cases r rs e s) [ inl i ↦ stands_own r (rs ++ (new ∷ [])) e i | inr t ↦ stands_more r (rs ++ (new ∷ [])) e (push_old rs e t) ]
+  stands_joined : (e : ℕ) → stands joined e ≡ (stands rows e || eqb n e)
+  stands_joined e = or_push (λ rs. stands rs e) (λ r. eqb r.entry e) refl (λ r rs. refl) rows new
 
-  push_new : (rs : List Row) → stands (rs ++ (new ∷ [])) n ≡ true
-  push_new [] = stands_own new [] n refl
-  push_new (r ∷ rs) = stands_more r (rs ++ (new ∷ [])) n (push_new rs)
+  pub joined_old : (e : ℕ) → stands rows e ≡ true → stands joined e ≡ true
+  joined_old e s = stands_joined e ∙ or_left (stands rows e) (eqb n e) s
 
-  push_cases : (rs : List Row) (e : ℕ) → stands (rs ++ (new ∷ [])) e ≡ true → (e ≡ n) ⊎ (stands rs e ≡ true)
-  push_cases [] e s = elim (stands_cases new [] e s) [ inl i ↦ inl (sym i) | inr t ↦ absurd (false≢true t) ]
-  push_cases (r ∷ rs) e s = elim (stands_cases r (rs ++ (new ∷ [])) e s) [
-    | inl i ↦ inr (stands_own r rs e i)
-    | inr t ↦ elim (push_cases rs e t) [ inl j ↦ inl j | inr u ↦ inr (stands_more r rs e u) ]
-  ]
+  pub joined_cases : (e : ℕ) → stands joined e ≡ true → (e ≡ n) ⊎ (stands rows e ≡ true)
+  joined_cases e s = elim (or_cases (stands rows e) (eqb n e) (sym (stands_joined e) ∙ s)) [ inl t ↦ inr t | inr i ↦ inl (sym (eqb-true n e i)) ]
 
-  push_parent_old : (rs : List Row) (e : ℕ) → stands rs e ≡ true → parent_of (rs ++ (new ∷ [])) e ≡ parent_of rs e
-  push_parent_old [] e s = absurd (false≢true s)
-  push_parent_old (r ∷ rs) e s =
-      let more = rs ++ (new ∷ []) in
-      elim (cases_eq r.entry e) [
-        | inl i ↦ parent_own r more e i ∙ sym (parent_own r rs e i)
-        | inr d ↦ elim (stands_cases r rs e s) [
-          | inl i ↦ absurd (d i)
-          | inr t ↦ parent_other r more e d ∙ push_parent_old rs e t ∙ sym (parent_other r rs e d)
-        ]
-      ]
+  parent_old : (e : ℕ) → stands rows e ≡ true → parent_of joined e ≡ parent_of rows e
+  parent_old e s =
+      let l : e < n = above e s in
+      found_push_other (λ rs. parent_of rs e) (λ r. eqb r.entry e) (λ r. r.parent) 0 refl (λ r rs. refl) rows new (ne_eqb n e (λ i. omega arith))
 
   push_parent_new : (rs : List Row) → (stands rs n ≡ true → ⊥) → parent_of (rs ++ (new ∷ [])) n ≡ q
   push_parent_new [] d = parent_own new [] n refl
   push_parent_new (r ∷ rs) d = parent_other r (rs ++ (new ∷ [])) n (λ i. d (stands_own r rs n i)) ∙ push_parent_new rs (λ s. d (stands_more r rs n s))
 
-  pub joined_old : (e : ℕ) → stands rows e ≡ true → stands joined e ≡ true
-  joined_old = push_old rows
-
-  pub joined_cases : (e : ℕ) → stands joined e ≡ true → (e ≡ n) ⊎ (stands rows e ≡ true)
-  joined_cases = push_cases rows
-
-  not_new : stands rows n ≡ true → ⊥
-  not_new s = let l : n < n = above n s in omega arith
-
-  up_joined : Grown rows → (m e : ℕ) → stands rows e ≡ true → up_from m joined e ≡ up_from m rows e
-  up_joined g zero e s = refl
-  up_joined g (suc m) e s =
-      let p = parent_of rows e in
-      let same : parent_of joined e ≡ p = push_parent_old rows e s in
-      elim (g.rooted e) [
-        | inl z ↦ up_top joined (suc m) e (same ∙ z) ∙ sym (up_top rows (suc m) e z)
-        | inr t ↦ ap (λ x. cond (eqb x 0) [] (x ∷ up_from m joined x)) same ∙ ap (λ l. cond (eqb p 0) [] (p ∷ l)) (up_joined g m p t)
-      ]
+  parent_new : parent_of joined n ≡ q
+  parent_new = push_parent_new rows (λ s. (let l : n < n = above n s in omega arith))
 
   pub elders_joined : Grown rows → (e : ℕ) → stands rows e ≡ true → elders joined e ≡ elders rows e
-  elders_joined g e s = up_joined g e e s
+  elders_joined g e s = up_agree joined rows (λ x. stands rows x ≡ true) parent_old (λ x t. g.rooted x) e e s
 
   module _ (g : Grown rows) (positive : 0 < n) (under : (q ≡ 0) ⊎ (stands rows q ≡ true)) where
     q_below : q < n
     q_below = elim under [ inl z ↦ omega arith | inr s ↦ above q s ]
 
+    joined_root : (p : ℕ) → (p ≡ 0) ⊎ (stands rows p ≡ true) → (e : ℕ) → parent_of joined e ≡ p → (parent_of joined e ≡ 0) ⊎ (stands joined (parent_of joined e) ≡ true)
+    joined_root p root e is = elim root [ inl z ↦ inl (is ∙ z) | inr s ↦ inr (ap (stands joined) is ∙ joined_old p s) ]
+
     pub grown_joined : Grown joined
     grown_joined = record {
       zero_free = λ s. elim (joined_cases 0 s) [ inl i ↦ omega arith | inr t ↦ g.zero_free t ];
       falls = λ e s. elim (joined_cases e s) [
-        | inl i ↦ subst (λ x. parent_of joined x < x) (sym i) (subst (λ p. p < n) (sym (push_parent_new rows not_new)) q_below)
-        | inr t ↦ subst (λ p. p < e) (sym (push_parent_old rows e t)) (g.falls e t)
+        | inl i ↦ (let is : parent_of joined e ≡ q = ap (parent_of joined) i ∙ parent_new in omega (arith, q_below))
+        | inr t ↦ subst (λ p. p < e) (sym (parent_old e t)) (g.falls e t)
       ];
-      rooted = λ e. elim (cases_Bool (stands joined e)) [
-        | inr s ↦ inl (parent_none joined e (λ t. false≢true (sym s ∙ t)))
-        | inl s ↦ elim (joined_cases e s) [
-          | inl i ↦ subst (λ x. (parent_of joined x ≡ 0) ⊎ (stands joined (parent_of joined x) ≡ true)) (sym i)
-              (subst (λ p. (p ≡ 0) ⊎ (stands joined p ≡ true)) (sym (push_parent_new rows not_new)) (elim under [ inl z ↦ inl z | inr t ↦ inr (joined_old q t) ]))
-          | inr t ↦ subst (λ p. (p ≡ 0) ⊎ (stands joined p ≡ true)) (sym (push_parent_old rows e t)) (elim (g.rooted e) [ inl z ↦ inl z | inr u ↦ inr (joined_old (parent_of rows e) u) ])
-        ]
+      rooted = λ e. elim (stands_or_top joined e) [
+        | inr z ↦ inl z
+        | inl s ↦ elim (joined_cases e s) [ inl i ↦ joined_root q under e (ap (parent_of joined) i ∙ parent_new) | inr t ↦ joined_root (parent_of rows e) (g.rooted e) e (parent_old e t) ]
       ];
     }
 
     -- the new entry's elders are its parent, if that is one, and the parent's
     pub elders_new_top : q ≡ 0 → elders joined n ≡ []
-    elders_new_top z = elders_top joined n (push_parent_new rows not_new ∙ z)
+    elders_new_top z = elders_top joined n (parent_new ∙ z)
 
     pub elders_new_inner : stands rows q ≡ true → elders joined n ≡ q ∷ elders rows q
     elders_new_inner s =
-        let is : parent_of joined n ≡ q = push_parent_new rows not_new in
+        let is : parent_of joined n ≡ q = parent_new in
         elders_inner joined grown_joined n (λ z. g.zero_free (subst (λ x. stands rows x ≡ true) (sym is ∙ z) s))
         ∙ ap (λ p. p ∷ elders joined p) is
         ∙ ap (λ l. q ∷ l) (elders_joined g q s)

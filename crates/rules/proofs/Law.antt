@@ -1,7 +1,7 @@
 -- The fair-copy law, over every history from set-up on.
 use Rattle.std.proofs.Common.{◌≡◌, ℕ, Bool, true, false, cond, ◌&&◌, eqb, List, [], ◌∷◌, ◌++◌, length, Some, None, Err, fold, Option, sym, refl, ap, ◌∙◌, subst, inl, inr}
-use mathlib.Core.Bool.{false≢true}
-use Rattle.std.proofs.lemmas.Bool.{cases_Bool, and_parts}
+use Rattle.std.proofs.lemmas.Bool.{cond_both, cases_Bool, and_parts}
+use Rattle.std.proofs.lemmas.Grind.{fold-append}
 use Rattle.cells.specs.Kinds.{Rules, CrossingLaw}
 use Rattle.rules.specs.declared.calls.Call.{Call}
 use Rattle.rules.specs.declared.calls.Call.TheVariants.{Begin, Post, Keep, Publish, Abandon, Value}
@@ -12,7 +12,7 @@ use Rattle.rules.specs.States.{State, set_up, size_within, all_lawful, sound_for
 use Rattle.rules.specs.Calls.{Answer, seen, ask, first_no, further_questions, turned_away, taken, unless_refused, step}
 use Rattle.rules.specs.Books.{Copy, then_block, lines_of, Book, new_book, rows_of, begun_number, posting_answer, is_done, if_any, with_begun, with_line, with_fair_block, with_block, with_abandoned, write}
 use Rattle.rules.specs.FairCopy.{Event, book_of, Leads, post_line, GetTheirAnswers, values_after, last_named_first, lines_so_far, Block, block_if, added_by, blocks_added, FairCopyHolds, FairCopyLaw}
-use Rattle.rules.proofs.Exchanges.{folded_append, right_append}
+use Rattle.rules.proofs.Exchanges.{right_append}
 use Rattle.rules.proofs.Kinship.{Grown, elders_are}
 use Rattle.rules.proofs.Descending.{so_far_right, so_far_end}
 use Rattle.rules.proofs.Stores.{laws}
@@ -30,18 +30,13 @@ module _ {P O : Type 0} where
   if_any_fair None more b same = refl
   if_any_fair (Some x) more b same = same x
 
-  cond_fair : (t : Bool) (c b : Book P O) → c.fair ≡ b.fair → (cond t c b).fair ≡ b.fair
-  cond_fair true c b same = same
-  cond_fair false c b same = refl
-
   publish_fair : (t : Bool) (b : Book P O) (e : ℕ) → (cond t (with_fair_block b e) b).fair ≡ with_blocks b.fair (block_if t b e)
   publish_fair true b e = refl
   publish_fair false b e = refl
 
   keep_fair : (t top : Bool) (b : Book P O) (e q : ℕ) → (cond t (cond top (with_fair_block b e) (with_block b e q)) b).fair ≡ with_blocks b.fair (block_if (t && top) b e)
   keep_fair true true b e q = refl
-  keep_fair true false b e q = refl
-  keep_fair false top b e q = refl
+  keep_fair t top b e q = refl
 
 -- what a call writes into the fair copy is just the block that it adds
 one_more : {V P O : Type 0} (s : State V P) (b : Book P O) → rows_of b.pages ≡ s.rows → (call : Call P) (answer : Answer V O) → (write b call answer).fair ≡ with_blocks b.fair (added_by s b call answer)
@@ -51,7 +46,7 @@ one_more s b same (Keep e) answer =
     keep_fair (is_done answer) (eqb (parent_of (rows_of b.pages) e) 0) b e (parent_of (rows_of b.pages) e)
     ∙ ap (λ rows. with_blocks b.fair (block_if (is_done answer && eqb (parent_of rows e) 0) b e)) same
 one_more s b same (Publish e) answer = publish_fair (is_done answer) b e
-one_more s b same (Abandon e) answer = cond_fair (is_done answer) (with_abandoned b e) b refl
+one_more s b same (Abandon e) answer = cond_both (is_done answer) (with_abandoned b e) b (λ c. c.fair ≡ b.fair) (λ t. refl) (λ f. refl)
 one_more s b same (Value c) answer = refl
 
 -- ---- histories
@@ -90,33 +85,28 @@ module _ {V P O : Type 0} (R : Rules V P O) (law : CrossingLaw R) (first : List 
       let c = write b x.call x.answer in
       fair_blocks history u t c (upheld_by R law first s b up x leads.0) leads.1
       ∙ ap (λ copy. with_blocks copy (blocks_added R u c history)) (one_more s b up.rows_are x.call x.answer)
-      ∙ sym (folded_append (λ copy block. then_block copy block.entry block.copy) b.fair (added_by s b x.call x.answer) (blocks_added R u c history))
+      ∙ sym (fold-append (λ copy block. then_block copy block.entry block.copy) b.fair (added_by s b x.call x.answer) (blocks_added R u c history))
 
 -- ---- set-up
 
 no_rows : Grown []
-no_rows = record { zero_free = λ s. false≢true s; falls = λ e s. absurd (false≢true s); rooted = λ e. inl refl }
+no_rows = record { zero_free = λ s. cc; falls = λ e s. cc; rooted = λ e. inl refl }
 
 module _ {V P O : Type 0} (R : Rules V P O) (law : CrossingLaw R) (first : List V) (rows lines : ℕ) where
   lawful : sound_for R first rows lines ≡ true → all_lawful R first ≡ true
-  lawful y =
-      let a = size_within (length first) 4096 in
-      let b = size_within rows 256 in
-      let c = size_within lines 4096 in
-      let d = all_lawful R first in
-      (and_parts c d (and_parts b (c && d) (and_parts a (b && (c && d)) y).1).1).1
+  lawful y = (and_parts (size_within lines 4096) _ (and_parts (size_within rows 256) _ (and_parts (size_within (length first) 4096) _ y).1).1).1
 
   starts : all_lawful R first ≡ true → Upheld R first (set_up R first rows lines) new_book
   starts ok = record {
     table = [];
     lines_are = refl;
     rows_are = refl;
-    numbered = λ e s. absurd (false≢true s);
+    numbered = λ e s. cc;
     core = record {
       frame = record { grown = no_rows; holders = tt; items_ok = tt; order = tt };
       value_ok = ok;
-      sees = λ e s. absurd (false≢true s);
-      copied = λ e s. absurd (false≢true s);
+      sees = λ e s. cc;
+      copied = λ e s. cc;
       fair_right = tt;
       fair_value = refl;
     };
@@ -136,7 +126,7 @@ module _ {V P O : Type 0} (R : Rules V P O) (law : CrossingLaw R) (first : List 
   standing_sees : (c : ℕ) → value_at (values_after R first (lines_of b.fair ++ lines_so_far b e)) c ≡ seen R s e c
   standing_sees c =
       ap (λ vs. value_at vs c)
-      (folded_append (post_line R) first (lines_of b.fair) (lines_so_far b e)
+      (fold-append (post_line R) first (lines_of b.fair) (lines_so_far b e)
       ∙ ap (λ vs. values_after R vs (lines_so_far b e)) up.core.fair_value
       ∙ ap (values_after R s.values) (sym so_far)
       ∙ so_far_end (laws R law) up.core e st)
@@ -147,8 +137,8 @@ untouched : {V P O : Type 0} (R : Rules V P O) (first : List V) (rows lines : �
 untouched R first rows lines = record {
   fair_answers = tt;
   fair_values = refl;
-  standing_answers = λ e st. absurd (false≢true st);
-  standing_sees = λ e c st. absurd (false≢true st);
+  standing_answers = λ e st. cc;
+  standing_sees = λ e c st. cc;
   same_standing = refl;
   elders_are = elders_are [] no_rows;
   one_block_each = refl;

@@ -1,6 +1,5 @@
 mod Exchanges
 pub mod Bools
-mod Options
 mod Pairs
 mod Holdings
 pub mod Numbers

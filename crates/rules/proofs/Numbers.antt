@@ -1,6 +1,5 @@
 -- Lists of numbers: which number is among them, and whether they fall.
 use Rattle.std.proofs.Common.{◌≡◌, ℕ, ◌<◌, true, eqb, ◌⊎◌, List, [], ◌∷◌, sym, refl, subst, inl, inr}
-use mathlib.Core.Bool.{false≢true}
 use Rattle.std.specs.List.{AllByRecursion as All}
 use Rattle.std.proofs.lemmas.Bool.{eqb-true, eq-eqb, or_cases, or_left, or_right}
 use Rattle.rules.specs.Entries.{is_among}
@@ -19,7 +18,7 @@ all_from_among Q [] f = tt
 all_from_among Q (x ∷ xs) f = (f x (among_self x xs), all_from_among Q xs (λ y h. f y (among_more y x xs h)))
 
 pub among_all : (Q : ℕ → Type 0) (xs : List ℕ) → All Q xs → (y : ℕ) → is_among xs y ≡ true → Q y
-among_all Q [] a y h = absurd (false≢true h)
+among_all Q [] a y h = cc
 among_all Q (x ∷ xs) a y h = elim (among_cases y x xs h) [ inl s ↦ subst Q (sym s) a.0 | inr k ↦ among_all Q xs a.1 y k ]
 
 -- each number is above all that follow it

@@ -7,11 +7,10 @@ use Rattle.cells.specs.Kinds.{Rules, CrossingLaw}
 use Rattle.rules.specs.declared.calls.Call.{Call}
 use Rattle.rules.specs.declared.calls.Call.TheVariants.{Begin, Post, Keep, Publish, Abandon, Value}
 use Rattle.rules.specs.declared.refusals.Refusal.{Refusal}
-use Rattle.rules.specs.declared.refusals.Refusal.TheVariants.{NotStanding}
 use Rattle.rules.specs.Entries.{stands, parent_of, is_own_or_elder, without}
 use Rattle.rules.specs.Cells.{value_at}
 use Rattle.rules.specs.States.{State}
-use Rattle.rules.specs.Calls.{Outcome, seen, questions, further_questions, committed_state, passed_state, kept_state, taken, step}
+use Rattle.rules.specs.Calls.{Outcome, seen, questions, further_questions, committed_state, kept_state, taken, step}
 use Rattle.rules.specs.Books.{Book, write}
 use Rattle.rules.specs.FairCopy.{Event, Leads, Block, AllDiffer, block_if, added_by, blocks_added}
 use Rattle.rules.proofs.Kinship.{rest, stood, others, other_not, joined_cases}
@@ -21,17 +20,13 @@ use Rattle.rules.proofs.Steps.{upheld_by}
 -- a call that is turned away adds no block
 pub unadded : {V P O : Type 0} (s : State V P) (b : Book P O) (call : Call P) (refusal : Refusal) → added_by {V = V} s b call (Err refusal) ≡ []
 unadded s b (Begin q) r = refl
-unadded s b (Post e c p) r = refl
-unadded s b (Keep e) r = refl
-unadded s b (Publish e) r = refl
-unadded s b (Abandon e) r = refl
-unadded s b (Value c) r = refl
+unadded s b call r = refl
 
 -- blocks of entries of which Q does not hold differ from blocks of entries of which it does
 differ_append : {P O : Type 0} (Q : ℕ → Type 0) (xs ys : List (Block P O)) → AllDiffer xs → AllDiffer ys → All (λ x. Q x.entry → ⊥) xs → All (λ y. Q y.entry) ys → AllDiffer (xs ++ ys)
 differ_append Q [] ys dx dy without_q with_q = dy
 differ_append Q (x ∷ xs) ys dx dy without_q with_q = (
-  All-append (λ y. x.entry ≡ y.entry → ⊥) xs ys dx.0 (All-weaker (λ y. Q y.entry) (λ y. x.entry ≡ y.entry → ⊥) (λ y q i. without_q.0 (subst Q (sym i) q)) ys with_q),
+  All-append _ xs ys dx.0 (All-weaker _ _ (λ y q i. without_q.0 (subst Q (sym i) q)) ys with_q),
   differ_append Q xs ys dx.1 dy without_q.1 with_q,
 )
 
@@ -60,14 +55,10 @@ module _ {V P O : Type 0} (R : Rules V P O) (first : List V) (s : State V P) (b 
   begin_open q x (inl st) = elim (joined_cases s.rows (s.begun + 1) q up.numbered x st) [ inl i ↦ inr (omega arith) | inr t ↦ inl t ]
   begin_open q x (inr l) = inr (omega arith)
 
-  keep_open : (e : ℕ) → WasOpen (taken R s (Keep e))
-  keep_open e = cond_both (eqb (parent_of s.rows e) 0) (committed_state R s e) (passed_state s e (parent_of s.rows e)) (λ t. (x : ℕ) → Open t x → Open s x)
-      (λ is. left_open (others e) s) (λ is. left_open (others e) s)
-
   taken_open : (call : Call P) → WasOpen (taken R s call)
   taken_open (Begin q) = begin_open q
   taken_open (Post e c p) = valued WasOpen s (seen R s e c) (λ v. _) (λ refusal x h. h) (λ v is x h. h)
-  taken_open (Keep e) = keep_open e
+  taken_open (Keep e) = cond_both (eqb (parent_of s.rows e) 0) _ _ (λ t. (x : ℕ) → Open t x → Open s x) (λ is. left_open (others e) s) (λ is. left_open (others e) s)
   taken_open (Publish e) = left_open (others e) s
   taken_open (Abandon e) = left_open (λ x. not (is_own_or_elder s.rows x e)) s
   taken_open (Value c) = valued WasOpen s (value_at s.values c) (λ v. _) (λ refusal x h. h) (λ v is x h. h)
@@ -89,21 +80,15 @@ module _ {V P O : Type 0} (R : Rules V P O) (first : List V) (s : State V P) (b 
   one_block false t e st shut = (tt, tt)
 
   taken_once : (call : Call P) → AllYes (further_questions R s call) → AddsOnce call (taken R s call)
-  taken_once (Begin q) ys = (tt, tt)
-  taken_once (Post e c p) ys = (tt, tt)
   taken_once (Keep e) ys =
-      let st = ask_yes (stands s.rows e) NotStanding ys.0 in
+      let st = ask_yes _ _ ys.0 in
       one_block (eqb (parent_of s.rows e) 0) (kept_state R s e) e st
-      (cond_both (eqb (parent_of s.rows e) 0) (committed_state R s e) (passed_state s e (parent_of s.rows e)) (λ t. Open t e → ⊥) (λ is. gone e st) (λ is. gone e st))
-  taken_once (Publish e) ys = let st = ask_yes (stands s.rows e) NotStanding ys.0 in one_block true (committed_state R s e) e st (gone e st)
-  taken_once (Abandon e) ys = (tt, tt)
-  taken_once (Value c) ys = (tt, tt)
-
-  turned_once : (blocks : List (Block P O)) → blocks ≡ [] → AllDiffer blocks × All (Ended s s) blocks
-  turned_once blocks none = subst (λ bs. AllDiffer bs × All (Ended s s) bs) (sym none) (tt, tt)
+      (cond_both (eqb (parent_of s.rows e) 0) _ _ (λ t. Open t e → ⊥) (λ is. gone e st) (λ is. gone e st))
+  taken_once (Publish e) ys = let st = ask_yes _ _ ys.0 in one_block true (committed_state R s e) e st (gone e st)
+  taken_once call ys = (tt, tt)
 
   adds_once : (call : Call P) → AddsOnce call (step R s call)
-  adds_once call = asked R (AddsOnce call) s (taken R s call) (λ refusal. turned_once (added_by s b call (Err refusal)) (unadded s b call refusal)) (questions R s call) (λ ys. taken_once call ys.1)
+  adds_once call = asked R (AddsOnce call) s (taken R s call) (λ refusal. subst (λ bs. AllDiffer bs × All (Ended s s) bs) (sym (unadded s b call refusal)) (tt, tt)) (questions R s call) (λ ys. taken_once call ys.1)
 
 -- ---- histories
 
@@ -128,11 +113,10 @@ module _ {V P O : Type 0} (R : Rules V P O) (law : CrossingLaw R) (first : List 
       let up' = upheld_by R law first s b up x leads.0 in
       let on = blocks_once history u t c up' leads.1 in (
         differ_append (Open u) added later now.0 on.0
-            (All-weaker (Ended s u) (λ block. Open u block.entry → ⊥) (λ block h. h.1) added now.1)
-            (All-weaker (Ended u t) (λ block. Open u block.entry) (λ block h. h.0) later on.1),
+            (All-weaker _ _ (λ block h. h.1) added now.1) (All-weaker _ _ (λ block h. h.0) later on.1),
         All-append (Ended s t) added later
-            (All-weaker (Ended s u) (Ended s t) (λ block h. (h.0, λ o. h.1 (long_open history u t c up' leads.1 block.entry o))) added now.1)
-            (All-weaker (Ended u t) (Ended s t) (λ block h. (was_open R first s b up x.call block.entry h.0, h.1)) later on.1),
+            (All-weaker _ _ (λ block h. (h.0, λ o. h.1 (long_open history u t c up' leads.1 block.entry o))) added now.1)
+            (All-weaker _ _ (λ block h. (was_open R first s b up x.call block.entry h.0, h.1)) later on.1),
       )
 
   module _ (history : List (Event V P O)) (s t : State V P) (b : Book P O) (up : Upheld R first s b) (leads : Leads R s history t) where
@@ -140,4 +124,4 @@ module _ {V P O : Type 0} (R : Rules V P O) (law : CrossingLaw R) (first : List 
     blocks_differ = (blocks_once history s t b up leads).0
 
     pub blocks_ended : All (λ block. stands t.rows block.entry ≡ true → ⊥) (blocks_added R s b history)
-    blocks_ended = All-weaker (Ended s t) (λ block. stands t.rows block.entry ≡ true → ⊥) (λ block h st. h.1 (inl st)) (blocks_added R s b history) (blocks_once history s t b up leads).1
+    blocks_ended = All-weaker _ _ (λ block h st. h.1 (inl st)) (blocks_added R s b history) (blocks_once history s t b up leads).1

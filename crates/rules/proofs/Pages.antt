@@ -1,84 +1,57 @@
 -- The pages of a book: whose they are and which copy each has, once one is added, written on or taken out.
-use Rattle.std.proofs.Common.{◌≡◌, ℕ, Bool, true, false, cond, eqb, List, [], ◌∷◌, ◌++◌, filter, sym, refl, ap, ◌∙◌, inl, inr}
-use mathlib.Core.Bool.{false≢true}
-use Rattle.std.proofs.lemmas.Bool.{eq-eqb, ne_eqb, cases_eq}
+use Rattle.std.proofs.Common.{◌≡◌, ℕ, Bool, true, false, cond, ◌||◌, eqb, List, [], ◌∷◌, ◌++◌, filter, sym, refl, ap, ◌∙◌}
+use Rattle.std.proofs.lemmas.Bool.{cond-true, cond-false, or_parts, eqb-true, ne_eqb, cond_both}
+use Rattle.std.proofs.lemmas.List.{map_push}
+use Rattle.std.proofs.lemmas.Simd.{map-map}
 use Rattle.rules.specs.declared.rows.Row.{Row}
 use Rattle.rules.specs.Entries.{stands}
 use Rattle.rules.specs.Books.{Copy, empty, Page, rows_of, copy_of, write_on}
-use Rattle.rules.proofs.Kinship.{rest, stands_own, stands_more, stands_cases}
+use Rattle.rules.proofs.Pairs.{filter_map_swap}
+use Rattle.rules.proofs.Kinship.{found_left, rest}
 
 module _ {P O : Type 0} where
   abbrev row_of : Page P O → Row
   row_of g = record { entry = g.entry; parent = g.parent }
 
-  copy_own : (g : Page P O) (pages : List (Page P O)) (e : ℕ) → g.entry ≡ e → copy_of (g ∷ pages) e ≡ g.copy
-  copy_own g pages e h = rw (eq-eqb g.entry e h)
-
-  copy_other : (g : Page P O) (pages : List (Page P O)) (e : ℕ) → (g.entry ≡ e → ⊥) → copy_of (g ∷ pages) e ≡ copy_of pages e
-  copy_other g pages e h = rw (ne_eqb g.entry e h)
-
-  pub copy_none : (pages : List (Page P O)) (e : ℕ) → (stands (rows_of pages) e ≡ true → ⊥) → copy_of pages e ≡ empty
+  pub copy_none : (pages : List (Page P O)) (e : ℕ) → stands (rows_of pages) e ≡ false → copy_of pages e ≡ empty
   copy_none [] e d = refl
-  copy_none (g ∷ pages) e d = copy_other g pages e (λ i. d (stands_own (row_of g) (rows_of pages) e i)) ∙ copy_none pages e (λ s. d (stands_more (row_of g) (rows_of pages) e s))
+  copy_none (g ∷ pages) e d = let ds = or_parts (eqb g.entry e) (stands (rows_of pages) e) d in cond-false _ _ _ ds.0 ∙ copy_none pages e ds.1
 
   -- an empty page is added
   pub rows_pushed : (pages : List (Page P O)) (n q : ℕ) → rows_of (pages ++ (record { entry = n; parent = q; copy = empty } ∷ [])) ≡ rows_of pages ++ (record { entry = n; parent = q } ∷ [])
-  rows_pushed [] n q = refl
-  rows_pushed (g ∷ pages) n q = ap (λ rs. row_of g ∷ rs) (rows_pushed pages n q)
-
-  either_empty : (b : Bool) (copy : Copy P O) → copy ≡ empty → cond b copy empty ≡ empty
-  either_empty true copy h = h
-  either_empty false copy h = refl
+  rows_pushed pages n q = map_push row_of pages (record { entry = n; parent = q; copy = empty })
 
   pub copy_pushed : (pages : List (Page P O)) (n q e : ℕ) → copy_of (pages ++ (record { entry = n; parent = q; copy = empty } ∷ [])) e ≡ copy_of pages e
-  copy_pushed [] n q e = either_empty (eqb n e) empty refl
+  copy_pushed [] n q e = cond_both (eqb n e) empty empty (λ copy. copy ≡ empty) (λ t. refl) (λ f. refl)
   copy_pushed (g ∷ pages) n q e = ap (cond (eqb g.entry e) g.copy) (copy_pushed pages n q e)
 
   -- a page is written on
-  pub rows_written : (e : ℕ) (more : Copy P O → Copy P O) (pages : List (Page P O)) → rows_of (write_on e more pages) ≡ rows_of pages
-  rows_written e more [] = refl
-  rows_written e more (g ∷ pages) = ap (λ rs. row_of g ∷ rs) (rows_written e more pages)
-
   abbrev written : ℕ → (Copy P O → Copy P O) → Page P O → Page P O
   written e more g = record { entry = g.entry; parent = g.parent; copy = cond (eqb g.entry e) (more g.copy) g.copy }
 
+  pub rows_written : (e : ℕ) (more : Copy P O → Copy P O) (pages : List (Page P O)) → rows_of (write_on e more pages) ≡ rows_of pages
+  rows_written e more pages = map-map row_of (written e more) pages
+
   pub copy_written : (e : ℕ) (more : Copy P O → Copy P O) (pages : List (Page P O)) → stands (rows_of pages) e ≡ true → copy_of (write_on e more pages) e ≡ more (copy_of pages e)
-  copy_written e more [] s = absurd (false≢true s)
-  copy_written e more (g ∷ pages) s = elim (cases_eq g.entry e) [
-    | inl i ↦ copy_own (written e more g) (write_on e more pages) e i ∙ ap (λ b. cond b (more g.copy) g.copy) (eq-eqb g.entry e i) ∙ ap more (sym (copy_own g pages e i))
-    | inr d ↦ elim (stands_cases (row_of g) (rows_of pages) e s) [
-      | inl i ↦ absurd (d i)
-      | inr t ↦ copy_other (written e more g) (write_on e more pages) e d ∙ copy_written e more pages t ∙ ap more (sym (copy_other g pages e d))
-    ]
-  ]
+  copy_written e more [] s = cc
+  copy_written e more (g ∷ pages) s =
+      elim (eqb g.entry e) as (λ b. (b || stands (rows_of pages) e) ≡ true → cond b (cond b (more g.copy) g.copy) (copy_of (write_on e more pages) e) ≡ more (cond b g.copy (copy_of pages e)))
+      [ true ↦ λ t. refl | false ↦ λ t. copy_written e more pages t ] s
 
   pub copy_unwritten : (e : ℕ) (more : Copy P O → Copy P O) (pages : List (Page P O)) (x : ℕ) → (x ≡ e → ⊥) → copy_of (write_on e more pages) x ≡ copy_of pages x
   copy_unwritten e more [] x ne = refl
-  copy_unwritten e more (g ∷ pages) x ne = elim (cases_eq g.entry x) [
-    | inl i ↦ copy_own (written e more g) (write_on e more pages) x i ∙ ap (λ b. cond b (more g.copy) g.copy) (ne_eqb g.entry e (λ j. ne (sym i ∙ j))) ∙ sym (copy_own g pages x i)
-    | inr d ↦ copy_other (written e more g) (write_on e more pages) x d ∙ copy_unwritten e more pages x ne ∙ sym (copy_other g pages x d)
-  ]
+  copy_unwritten e more (g ∷ pages) x ne =
+      cond_both (eqb g.entry x) (cond (eqb g.entry e) (more g.copy) g.copy) (copy_of (write_on e more pages) x) (λ c. c ≡ copy_of (g ∷ pages) x)
+      (λ t. cond-false _ _ _ (ne_eqb g.entry e (λ j. ne (sym (eqb-true g.entry x t) ∙ j))) ∙ sym (cond-true _ _ _ t))
+      (λ f. copy_unwritten e more pages x ne ∙ sym (cond-false _ _ _ f))
 
   -- only the pages of entries that pass the test k are left
   module _ (k : ℕ → Bool) where
     abbrev pub left_pages : List (Page P O) → List (Page P O)
     left_pages pages = filter (λ g. k g.entry) pages
 
-    rows_cond : (b : Bool) (g : Page P O) (pages : List (Page P O)) (rows : List Row) → rows_of pages ≡ rows → rows_of (cond b (g ∷ pages) pages) ≡ cond b (row_of g ∷ rows) rows
-    rows_cond true g pages rows e = ap (λ rs. row_of g ∷ rs) e
-    rows_cond false g pages rows e = e
-
     pub rows_left : (pages : List (Page P O)) → rows_of (left_pages pages) ≡ rest k (rows_of pages)
-    rows_left [] = refl
-    rows_left (g ∷ pages) = rows_cond (k g.entry) g (left_pages pages) (rest k (rows_of pages)) (rows_left pages)
-
-    copy_cond : (b : Bool) (g : Page P O) (pages : List (Page P O)) (e : ℕ) → (g.entry ≡ e → ⊥) → copy_of (cond b (g ∷ pages) pages) e ≡ copy_of pages e
-    copy_cond true g pages e d = copy_other g pages e d
-    copy_cond false g pages e d = refl
+    rows_left pages = sym (filter_map_swap row_of (λ r. k r.entry) pages)
 
     pub copy_left : (pages : List (Page P O)) (e : ℕ) → k e ≡ true → copy_of (left_pages pages) e ≡ copy_of pages e
-    copy_left [] e h = refl
-    copy_left (g ∷ pages) e h = elim (cases_eq g.entry e) [
-      | inl i ↦ ap (λ b. copy_of (cond b (g ∷ left_pages pages) (left_pages pages)) e) (ap k i ∙ h) ∙ copy_own g (left_pages pages) e i ∙ sym (copy_own g pages e i)
-      | inr d ↦ copy_cond (k g.entry) g (left_pages pages) e d ∙ copy_left pages e h ∙ sym (copy_other g pages e d)
-    ]
+    copy_left pages e h = found_left (λ gs. copy_of gs e) (λ g. eqb g.entry e) (λ g. g.copy) (λ g gs. refl) (λ g. k g.entry) (λ g t. ap k (eqb-true g.entry e t) ∙ h) pages

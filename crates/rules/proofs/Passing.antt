@@ -1,28 +1,25 @@
 -- An inner keep: an entry's lines stay in their places and pass to its parent, and it ends.
-use Rattle.std.proofs.Common.{◌≡◌, ℕ, Bool, true, false, cond, not, ◌&&◌, eqb, ◌⊎◌, List, ◌∷◌, ◌++◌, fold, sym, refl, ap, ◌∙◌, subst, inl, inr, append_assoc}
+use Rattle.std.proofs.Common.{◌≡◌, ℕ, Bool, true, false, cond, not, ◌&&◌, ◌||◌, eqb, ◌⊎◌, List, ◌∷◌, ◌++◌, fold, sym, refl, ap, ◌∙◌, subst, inl, inr, append_assoc}
 use Rattle.std.specs.List.{AllByRecursion as All}
-use Rattle.std.proofs.lemmas.Bool.{eqb-true, eq-eqb, ne_eqb, cases_Bool, cases_eq, and_parts, and_from, not_from_false}
+use Rattle.std.proofs.lemmas.Bool.{cond_both, eqb-false, or_left, and_left, eqb-true, eq-eqb, ne_eqb, cases_Bool, and_parts, not-true, both_ways, false_from_ne_true}
 use Rattle.std.proofs.ByRecursion.{All-weaker, All-map}
 use Rattle.rules.specs.declared.rows.Row.{Row}
 use Rattle.rules.specs.Entries.{stands, childless, elders, is_among, is_own_or_elder}
 use Rattle.rules.specs.Calls.{holder_after}
 use Rattle.rules.specs.FairCopy.{EachInTurn}
 use Rattle.rules.proofs.Exchanges.{Same, Laws, same_trans, same_sym, same_left, same_right, same_all, same_rightly, right_front, right_back, right_append, stays_ok, past_all}
-use Rattle.rules.proofs.Bools.{parts_by, not_so, false_by}
-use Rattle.rules.proofs.Pairs.{Pairs, pairs_weaker, pairs_map}
-use Rattle.rules.proofs.Holdings.{Held, held, renamed, held_agree, held_renamed, split, cross_held, CrossesBoth}
-use Rattle.rules.proofs.Numbers.{among_cases, among_more}
+use Rattle.rules.proofs.Bools.{Parts, parts_alone, parts_swap, parts_first, parts_or, parts_rest}
+use Rattle.rules.proofs.Pairs.{Pairs, all_of, pairs_weaker, pairs_map}
+use Rattle.rules.proofs.Holdings.{Held, held, renamed, held_agree, held_renamed, split, cross_held}
+use Rattle.rules.proofs.Numbers.{among_cases}
 use Rattle.rules.proofs.Kinship.{Grown, rest, stood, grown_rest, stands_rest, elders_rest, others, not_other, other_not, closed_others, kin_self, kin_trans, kin_childless}
-use Rattle.rules.proofs.Standing.{Frame, Core, own, Ordered, held_ok}
+use Rattle.rules.proofs.Standing.{Frame, Core, own, Ordered, held_ok, copied_with}
 
 abbrev passed_on : {X : Type 0} → ℕ → ℕ → Held X → Held X
 passed_on e q g = record { holder = holder_after e q g.holder; item = g.item }
 
-after_own : (e q h : ℕ) → h ≡ e → holder_after e q h ≡ q
-after_own e q h i = rw (eq-eqb h e i)
-
-after_other : (e q h : ℕ) → (h ≡ e → ⊥) → holder_after e q h ≡ h
-after_other e q h d = rw (ne_eqb h e d)
+after_both : (P : ℕ → Type 0) (e q h : ℕ) → (h ≡ e → P q) → ((h ≡ e → ⊥) → P h) → P (holder_after e q h)
+after_both P e q h is other = cond_both (eqb h e) q h P (λ t. is (eqb-true h e t)) (λ f. other (eqb-false h e f))
 
 module _ {V X : Type 0} {after : V → X → V} {Right : V → X → Type 0} {OkValue : V → Type 0} {OkItem : X → Type 0} {Cross : X → X → Type 0} (laws : Laws after Right OkValue OkItem Cross)
     {first : V} {rows : List Row} {table : List (Held X)} {copies : ℕ → List X} {value : V} {fair : List X} (core : Core after Right OkValue OkItem Cross first rows table copies value fair) where
@@ -39,49 +36,38 @@ module _ {V X : Type 0} {after : V → X → V} {Right : V → X → Type 0} {Ok
     grown : Grown rows
     grown = core.frame.grown
 
-    same_elders : (f : ℕ) → (f ≡ e → ⊥) → elders left f ≡ elders rows f
-    same_elders f d = elders_rest (others e) rows (closed_others rows grown e ch) f (not_other e f d)
+    by_order : {Z : Held X → Held X → Type 0} → ((g m : Held X) → Ordered Cross rows g m → Z g m) → Pairs Z table
+    by_order k = pairs_weaker k table core.frame.order
 
-    not_among : (f : ℕ) → (f ≡ e → ⊥) → is_own_or_elder rows f e ≡ true → ⊥
-    not_among f d h = d (kin_childless rows grown e f ch h)
+    same_elders : (f : ℕ) → (f ≡ e → ⊥) → elders left f ≡ elders rows f
+    same_elders f d = elders_rest (others e) rows grown (closed_others rows grown e ch) f (not_other e f d)
 
     -- e is neither another entry nor its elder
     not_e : (f h : ℕ) → (f ≡ e → ⊥) → is_own_or_elder rows f h ≡ true → h ≡ e → ⊥
-    not_e f h d m i = not_among f d (subst (λ y. is_own_or_elder rows f y ≡ true) i m)
+    not_e f h d m i = d (kin_childless rows grown e f h ch i m)
 
     cases_kin : (h : ℕ) → is_own_or_elder rows e h ≡ true → (e ≡ h) ⊎ (is_own_or_elder rows q h ≡ true)
     cases_kin h m = elim (among_cases h e (elders rows e) m) [ inl i ↦ inl (sym i) | inr k ↦ inr (subst (λ l. is_among l h ≡ true) is k) ]
 
-    in_kin : (h : ℕ) → is_own_or_elder rows q h ≡ true → is_own_or_elder rows e h ≡ true
-    in_kin h m = among_more h e (elders rows e) (subst (λ l. is_among l h ≡ true) (sym is) m)
-
     after_stands : (h : ℕ) → stands rows h ≡ true → stands left (holder_after e q h) ≡ true
-    after_stands h s = elim (cases_eq h e) [
-      | inl i ↦ subst (λ y. stands left y ≡ true) (sym (after_own e q h i)) (stands_rest (others e) rows q sq (not_other e q ne))
-      | inr d ↦ subst (λ y. stands left y ≡ true) (sym (after_other e q h d)) (stands_rest (others e) rows h s (not_other e h d))
-    ]
+    after_stands h s = after_both (λ y. stands left y ≡ true) e q h (λ i. stands_rest (others e) rows q sq (not_other e q ne)) (λ d. stands_rest (others e) rows h s (not_other e h d))
 
     after_kin : (h k : ℕ) → is_own_or_elder rows k h ≡ true → is_own_or_elder left (holder_after e q k) (holder_after e q h) ≡ true
-    after_kin h k m = elim (cases_eq k e) [
-      | inl i ↦ subst (λ y. is_own_or_elder left y (holder_after e q h) ≡ true) (sym (after_own e q k i))
-          (subst (λ l. is_among (q ∷ l) (holder_after e q h) ≡ true) (sym (same_elders q ne))
-          (elim (cases_kin h (subst (λ y. is_own_or_elder rows y h ≡ true) i m)) [
-            | inl j ↦ subst (λ y. is_own_or_elder rows q y ≡ true) (sym (after_own e q h (sym j))) (kin_self rows grown q)
-            | inr l ↦ subst (λ y. is_own_or_elder rows q y ≡ true) (sym (after_other e q h (not_e q h ne l))) l
-          ]))
-      | inr d ↦ subst (λ y. is_own_or_elder left y (holder_after e q h) ≡ true) (sym (after_other e q k d))
-          (subst (λ l. is_among (k ∷ l) (holder_after e q h) ≡ true) (sym (same_elders k d))
-          (subst (λ y. is_own_or_elder rows k y ≡ true) (sym (after_other e q h (not_e k h d m))) m))
-    ]
+    after_kin h k m =
+        after_both (λ y. is_own_or_elder left y (holder_after e q h) ≡ true) e q k
+        (λ i. subst (λ l. is_among (q ∷ l) (holder_after e q h) ≡ true) (sym (same_elders q ne))
+        (after_both (λ y. is_own_or_elder rows q y ≡ true) e q h (λ j. kin_self rows grown q)
+        (λ d. elim (cases_kin h (subst (λ y. is_own_or_elder rows y h ≡ true) i m)) [ inl j ↦ absurd (d (sym j)) | inr l ↦ l ])))
+        (λ d. subst (λ l. is_among (k ∷ l) (holder_after e q h) ≡ true) (sym (same_elders k d))
+        (after_both (λ y. is_own_or_elder rows k y ≡ true) e q h (λ i. absurd (not_e k h d m i)) (λ n. m)))
 
     passed_frame : Frame OkItem Cross left passed_table
     passed_frame = record {
       grown = grown_rest (others e) rows grown (closed_others rows grown e ch);
-      holders = All-map (λ g. stands left g.holder ≡ true) (passed_on e q) table (All-weaker (λ g. stands rows g.holder ≡ true) (λ g. stands left (holder_after e q g.holder) ≡ true) (λ g s. after_stands g.holder s) table core.frame.holders);
-      items_ok = All-map (λ g. OkItem g.item) (passed_on e q) table core.frame.items_ok;
-      order = pairs_map (passed_on e q) (Ordered Cross left) table
-          (pairs_weaker (λ g. OkItem g.item) (Ordered Cross rows) (λ g m. Cross g.item m.item ⊎ (is_own_or_elder left (holder_after e q m.holder) (holder_after e q g.holder) ≡ true))
-          (λ g m og om o. elim o [ inl c ↦ inl c | inr h ↦ inr (after_kin g.holder m.holder h) ]) table core.frame.items_ok core.frame.order);
+      holders = All-map _ (passed_on e q) table (All-weaker _ _ (λ g s. after_stands g.holder s) table core.frame.holders);
+      items_ok = All-map _ (passed_on e q) table core.frame.items_ok;
+      order = pairs_map _ (passed_on e q) table
+          (pairs_weaker (λ g m o. elim o [ inl c ↦ inl c | inr h ↦ inr (after_kin g.holder m.holder h) ]) table core.frame.order);
     }
 
     -- what f sees after
@@ -96,11 +82,7 @@ module _ {V X : Type 0} {after : V → X → V} {Right : V → X → Type 0} {Ok
       sees_apart : is_own_or_elder rows f q ≡ false → EachInTurn after Right value (held sight table)
       sees_apart a = subst (EachInTurn after Right value)
           (held_agree (is_own_or_elder rows f) sight table
-          (All-weaker (λ g. OkItem g.item) (λ g. is_own_or_elder rows f g.holder ≡ sight g.holder)
-          (λ g o. elim (cases_eq g.holder e) [
-            | inl i ↦ ap (is_own_or_elder rows f) i ∙ false_by (is_own_or_elder rows f e) (not_among f d) ∙ sym a ∙ ap (is_own_or_elder rows f) (sym (after_own e q g.holder i))
-            | inr n ↦ ap (is_own_or_elder rows f) (sym (after_other e q g.holder n))
-          ]) table core.frame.items_ok))
+          (all_of (λ g. after_both (λ y. is_own_or_elder rows f g.holder ≡ is_own_or_elder rows f y) e q g.holder (λ i. false_from_ne_true _ (λ m. not_e f g.holder d m i) ∙ sym a) (λ n. refl)) table))
           (core.sees f sf)
 
       -- the lines of f and of its elders below q
@@ -121,66 +103,44 @@ module _ {V X : Type 0} {after : V → X → V} {Right : V → X → Type 0} {Ok
         lower_in h l = (and_parts (is_own_or_elder rows f h) (not (is_own_or_elder rows q h)) l).0
 
         lower_out : (h : ℕ) → lower h ≡ true → is_own_or_elder rows q h ≡ true → ⊥
-        lower_out h l = not_so (is_own_or_elder rows q h) (and_parts (is_own_or_elder rows f h) (not (is_own_or_elder rows q h)) l).1
+        lower_out h l = both_ways _ (not-true _ (and_parts (is_own_or_elder rows f h) (not (is_own_or_elder rows q h)) l).1)
 
         -- they are neither e's nor its elders'
         lower_apart : (h : ℕ) → lower h ≡ true → is_own_or_elder rows e h ≡ true → ⊥
         lower_apart h l m = elim (cases_kin h m) [ inl i ↦ not_e f h d (lower_in h l) (sym i) | inr k ↦ lower_out h l k ]
 
-        either : (h : ℕ) → is_own_or_elder rows f h ≡ true → (is_own_or_elder rows q h ≡ true) ⊎ (lower h ≡ true)
-        either h m = elim (cases_Bool (is_own_or_elder rows q h)) [ inl k ↦ inl k | inr k ↦ inr (and_from (is_own_or_elder rows f h) (not (is_own_or_elder rows q h)) m (not_from_false (is_own_or_elder rows q h) k)) ]
-
         above_in : (h : ℕ) → is_own_or_elder rows q h ≡ true → is_own_or_elder rows f h ≡ true
         above_in h m = kin_trans rows grown f q h u m
-
-        by_order : (Z : Held X → Held X → Type 0) → ((g m : Held X) → Ordered Cross rows g m → Z g m) → Pairs Z table
-        by_order Z k = pairs_weaker (λ g. OkItem g.item) (Ordered Cross rows) Z (λ g m og om o. k g m o) table core.frame.items_ok core.frame.order
 
         -- f saw: the lines of q and above, and then the lower ones
         saw : Same Cross (held (is_own_or_elder rows f) table) (upper_lines ++ lower_lines)
         saw = split (is_own_or_elder rows f) (is_own_or_elder rows q) lower
-            (λ h. parts_by (is_own_or_elder rows f h) (is_own_or_elder rows q h) (lower h) (either h) (above_in h) (lower_in h) (λ a b. lower_out h b a))
+            (λ h. parts_rest (is_own_or_elder rows f h) (is_own_or_elder rows q h) (above_in h))
             table
-            (by_order (λ g m. lower g.holder ≡ true → is_own_or_elder rows q m.holder ≡ true → Cross g.item m.item)
-            (λ g m o b a. elim o [ inl c ↦ c | inr h ↦ absurd (lower_out g.holder b (kin_trans rows grown q m.holder g.holder a h)) ]))
+            (by_order (λ g m o b a. elim o [ inl c ↦ c | inr h ↦ absurd (lower_out g.holder b (kin_trans rows grown q m.holder g.holder a h)) ]))
 
         -- e saw: the lines of q and above, and then its own
         e_saw : Same Cross (held (is_own_or_elder rows e) table) (upper_lines ++ own_lines)
         e_saw = split (is_own_or_elder rows e) (is_own_or_elder rows q) (own e)
-            (λ h. parts_by (is_own_or_elder rows e h) (is_own_or_elder rows q h) (own e h)
-            (λ m. elim (cases_kin h m) [ inl i ↦ inr (eq-eqb h e (sym i)) | inr k ↦ inl k ])
-            (in_kin h)
-            (λ m. subst (λ y. is_own_or_elder rows e y ≡ true) (sym (eqb-true h e m)) (kin_self rows grown e))
-            (λ a b. not_e q h ne a (eqb-true h e b)))
+            (λ h. subst (λ l. Parts (is_among (e ∷ l) h) (is_own_or_elder rows q h) (own e h)) (sym is) (parts_swap (parts_or (own e h) (is_own_or_elder rows q h) (λ b a. not_e q h ne a (eqb-true h e b)))))
             table
-            (by_order (λ g m. own e g.holder ≡ true → is_own_or_elder rows q m.holder ≡ true → Cross g.item m.item)
-            (λ g m o b a. elim o [ inl c ↦ c | inr h ↦ absurd (not_e q m.holder ne a (kin_childless rows grown e m.holder ch (subst (λ y. is_own_or_elder rows m.holder y ≡ true) (eqb-true g.holder e b) h))) ]))
+            (by_order (λ g m o b a. elim o [ inl c ↦ c | inr h ↦ absurd (not_e q m.holder ne a (kin_childless rows grown e m.holder g.holder ch (eqb-true g.holder e b) h)) ]))
 
         -- f sees: what e saw, and then the lower ones
         sight_splits : Same Cross (held sight table) (held (is_own_or_elder rows e) table ++ lower_lines)
         sight_splits = split sight (is_own_or_elder rows e) lower
-            (λ h. parts_by (sight h) (is_own_or_elder rows e h) (lower h)
-            (λ m. elim (cases_eq h e) [
-              | inl i ↦ inl (subst (λ y. is_own_or_elder rows e y ≡ true) (sym i) (kin_self rows grown e))
-              | inr n ↦ elim (either h (subst (λ y. is_own_or_elder rows f y ≡ true) (after_other e q h n) m)) [ inl k ↦ inl (in_kin h k) | inr k ↦ inr k ]
-            ])
-            (λ m. elim (cases_kin h m) [
-              | inl i ↦ subst (λ y. is_own_or_elder rows f y ≡ true) (sym (after_own e q h (sym i))) u
-              | inr k ↦ subst (λ y. is_own_or_elder rows f y ≡ true) (sym (after_other e q h (not_e q h ne k))) (above_in h k)
-            ])
-            (λ m. subst (λ y. is_own_or_elder rows f y ≡ true) (sym (after_other e q h (not_e f h d (lower_in h m)))) (lower_in h m))
-            (λ a b. lower_apart h b a))
+            (λ h. after_both (λ y. Parts (is_own_or_elder rows f y) (is_own_or_elder rows e h) (lower h)) e q h
+            (λ i. parts_first _ _ _ u (or_left _ _ (eq-eqb h e i)) (and_left _ _ (false_from_ne_true _ (λ m. not_e f h d m i))))
+            (λ n. subst (λ b. Parts (is_own_or_elder rows f h) b (lower h)) (sym (ap (λ l. is_among (e ∷ l) h) is ∙ ap (λ b. b || is_own_or_elder rows q h) (ne_eqb h e n))) (parts_rest (is_own_or_elder rows f h) (is_own_or_elder rows q h) (above_in h))))
             table
-            (by_order (λ g m. lower g.holder ≡ true → is_own_or_elder rows e m.holder ≡ true → Cross g.item m.item)
-            (λ g m o b a. elim o [ inl c ↦ c | inr h ↦ absurd (lower_apart g.holder b (kin_trans rows grown e m.holder g.holder a h)) ]))
+            (by_order (λ g m o b a. elim o [ inl c ↦ c | inr h ↦ absurd (lower_apart g.holder b (kin_trans rows grown e m.holder g.holder a h)) ]))
 
         lower_crossed : All (λ x. All (Cross x) lower_lines) own_lines
         lower_crossed = cross_held Cross (own e) lower (λ h a b. not_e f h d (lower_in h b) (eqb-true h e a)) table
-            (by_order (CrossesBoth Cross (own e) lower)
-            (λ g m o. (
+            (by_order (λ g m o. (
               λ a b. elim o [
                 | inl c ↦ c
-                | inr h ↦ absurd (not_e f m.holder d (lower_in m.holder b) (kin_childless rows grown e m.holder ch (subst (λ y. is_own_or_elder rows m.holder y ≡ true) (eqb-true g.holder e a) h)))
+                | inr h ↦ absurd (not_e f m.holder d (lower_in m.holder b) (kin_childless rows grown e m.holder g.holder ch (eqb-true g.holder e a) h))
               ],
               λ b a. elim o [
                 | inl c ↦ laws.symm g.item m.item c
@@ -211,18 +171,14 @@ module _ {V X : Type 0} {after : V → X → V} {Right : V → X → Type 0} {Ok
     -- q's copy with e's as a block
     merged : Same Cross (held (λ h. own q (holder_after e q h)) table) (held (own q) table ++ held (own e) table)
     merged = split (λ h. own q (holder_after e q h)) (own q) (own e)
-        (λ h. parts_by (own q (holder_after e q h)) (own q h) (own e h)
-        (λ m. elim (cases_eq h e) [ inl i ↦ inr (eq-eqb h e i) | inr n ↦ inl (subst (λ y. own q y ≡ true) (after_other e q h n) m) ])
-        (λ m. subst (λ y. own q y ≡ true) (sym (after_other e q h (λ i. ne (sym (eqb-true h q m) ∙ i)))) m)
-        (λ m. subst (λ y. own q y ≡ true) (sym (after_own e q h (eqb-true h e m))) (eq-eqb q q refl))
-        (λ a b. ne (sym (eqb-true h q a) ∙ eqb-true h e b)))
+        (λ h. after_both (λ y. Parts (own q y) (own q h) (own e h)) e q h
+        (λ i. parts_swap (parts_first _ _ _ (eq-eqb q q refl) (eq-eqb h e i) (ne_eqb h q (λ j. ne (sym j ∙ i)))))
+        (λ n. subst (Parts (own q h) (own q h)) (sym (ne_eqb h e n)) (parts_alone (own q h))))
         table
-        (pairs_weaker (λ g. OkItem g.item) (Ordered Cross rows) (λ g m. own e g.holder ≡ true → own q m.holder ≡ true → Cross g.item m.item)
-        (λ g m og om o b a. elim o [
+        (by_order (λ g m o b a. elim o [
           | inl c ↦ c
           | inr h ↦ absurd (not_e q g.holder ne (subst (λ y. is_own_or_elder rows y g.holder ≡ true) (eqb-true m.holder q a) h) (eqb-true g.holder e b))
-        ])
-        table core.frame.items_ok core.frame.order)
+        ]))
 
     copied_q : Same Cross (copies q ++ copies e) (held (own q) passed_table)
     copied_q = subst (Same Cross (copies q ++ copies e)) (sym (held_renamed (holder_after e q) (own q) table))
@@ -231,11 +187,7 @@ module _ {V X : Type 0} {after : V → X → V} {Right : V → X → Type 0} {Ok
     copied_other : (f : ℕ) → stands rows f ≡ true → (f ≡ e → ⊥) → (f ≡ q → ⊥) → Same Cross (copies f) (held (own f) passed_table)
     copied_other f s d n = subst (Same Cross (copies f))
         (held_agree (own f) (λ h. own f (holder_after e q h)) table
-        (All-weaker (λ g. OkItem g.item) (λ g. own f g.holder ≡ own f (holder_after e q g.holder))
-        (λ g o. elim (cases_eq g.holder e) [
-          | inl i ↦ ne_eqb g.holder f (λ j. d (sym j ∙ i)) ∙ sym (ne_eqb q f (λ j. n (sym j))) ∙ ap (own f) (sym (after_own e q g.holder i))
-          | inr k ↦ ap (own f) (sym (after_other e q g.holder k))
-        ]) table core.frame.items_ok)
+        (all_of (λ g. after_both (λ y. own f g.holder ≡ own f y) e q g.holder (λ i. ne_eqb g.holder f (λ j. d (sym j ∙ i)) ∙ sym (ne_eqb q f (λ j. n (sym j)))) (λ k. refl)) table)
         ∙ sym (held_renamed (holder_after e q) (own f) table))
         (core.copied f s)
 
@@ -244,11 +196,7 @@ module _ {V X : Type 0} {after : V → X → V} {Right : V → X → Type 0} {Ok
       frame = passed_frame;
       value_ok = core.value_ok;
       sees = λ f s. (let so = stood (others e) rows f s in sees_after f so.0 (other_not e f so.1));
-      copied = λ f s. (let so = stood (others e) rows f s in
-          elim (cases_eq f q) [
-            | inl i ↦ subst (λ y. Same Cross (passed_copies y) (held (own y) passed_table)) (sym i) (subst (λ b. Same Cross (cond b (copies q ++ copies e) (copies q)) (held (own q) passed_table)) (sym (eq-eqb q q refl)) copied_q)
-            | inr n ↦ subst (λ b. Same Cross (cond b (copies q ++ copies e) (copies f)) (held (own f) passed_table)) (sym (ne_eqb f q n)) (copied_other f so.0 (other_not e f so.1) n)
-          ]);
+      copied = λ f s. (let so = stood (others e) rows f s in copied_with passed_table copies q (copies q ++ copies e) copied_q f (copied_other f so.0 (other_not e f so.1)));
       fair_right = core.fair_right;
       fair_value = core.fair_value;
     }

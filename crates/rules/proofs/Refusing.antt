@@ -1,7 +1,7 @@
 -- What every refusal says: each question asks what it means, and so the first no is the first question that the call fails.
-use Rattle.std.proofs.Common.{◌≡◌, ℕ, ◌<◌, ◌≤◌, Bool, true, false, not, ◌&&◌, ◌||◌, eqb, ltb, List, [], ◌∷◌, length, Some, Ok, Err, Decides, Option, sym, refl, ap, ◌∙◌, inl, inr, arith}
-use mathlib.Core.Bool.{false≢true}
-use Rattle.std.proofs.lemmas.Bool.{eqb-true, eqb-false, eq-eqb, ne_eqb, ltb-false, le-ltb, and_parts, and_from, or_cases, or_parts, or_from, or_left, or_right, not-true}
+use Rattle.std.proofs.Common.{◌≡◌, ℕ, ◌<◌, ◌≤◌, true, eqb, List, [], ◌∷◌, length, Ok, Err, Decides, refl, ap, inl, inr, arith}
+use Rattle.std.proofs.lemmas.Bool.Decides.{Decides-like, Decides-and, Decides-or, Decides-not, Decides-eqb}
+use Rattle.std.proofs.lemmas.Bool.{both_ways, false_from_ne_true, eqb-false, ne_eqb, ltb-false, le-ltb, or_parts, or_from}
 use Rattle.cells.specs.Kinds.{Rules, CrossingLaw}
 use Rattle.rules.specs.declared.lines.Line.{Line}
 use Rattle.rules.specs.declared.calls.Call.{Call}
@@ -10,87 +10,36 @@ use Rattle.rules.specs.declared.calls.Reply.{Reply}
 use Rattle.rules.specs.declared.refusals.Refusal.{Refusal}
 use Rattle.rules.specs.declared.refusals.Refusal.TheVariants.{Unsound, NotStanding, HasChild, NoSuchCell, UnlawfulPosting, InTheWay, HeldByElder, NoFreeRow, NoFreeLine, NoNumberLeft}
 use Rattle.rules.specs.Refusals.{number_of, holder_of}
-use Rattle.rules.specs.Entries.{stands, childless, Elder, elders, is_among, is_own_or_elder}
+use Rattle.rules.specs.Entries.{stands, Elder, elders, is_among}
 use Rattle.rules.specs.States.{State}
-use Rattle.rules.specs.Calls.{some_line, earliest_holder, stops_posting, stops_publishing, ask, ask_holder, first_no, questions, taken, step}
-use Rattle.rules.specs.TurnedAway.{Earliest, StopsPosting, StopsPublishing, Fails, AnswersRightly, RefusalLaw}
-use Rattle.rules.proofs.Bools.{not_by}
+use Rattle.rules.specs.Calls.{stops_posting, stops_publishing, ask, ask_holder, first_no, questions, taken, step}
+use Rattle.rules.specs.TurnedAway.{StopsPosting, StopsPublishing, Fails, AnswersRightly, RefusalLaw}
 use Rattle.rules.proofs.FirstNo.{TellEach, ask_tells, holder_tells, first_says, rise, IsSaid, first_least, none_said}
-use Rattle.rules.proofs.Outcomes.{refused_by, taken_by, taken_leaves, taken_fails, leaves_by}
-use Rattle.rules.proofs.EarliestLines.{some_among, among_some, earliest_is, earliest_found}
+use Rattle.rules.proofs.Outcomes.{refused_by, taken_by, effect_refused, leaves_by}
+use Rattle.rules.proofs.EarliestLines.{some_is, earliest_is, earliest_found}
 use Rattle.rules.proofs.Law.{fair_copy_law}
 
 -- ---- questions 6 and 7
 
--- an option has the value h just where Q holds
-abbrev DecidesSome : Option ℕ → ℕ → Type 0 → Type 0
-DecidesSome o h Q = (o ≡ Some h → Q) × (Q → o ≡ Some h)
-
 module _ {V P O : Type 0} (R : Rules V P O) (s : State V P) (elders_are : (e x : ℕ) → Decides (is_among (elders s.rows e) x) (Elder s.rows x e)) where
+  crosses_is : (p o : P) → Decides (R.crosses p o) (R.crosses p o ≡ true)
+  crosses_is p o = (λ h. h, λ h. h)
+
   stops_posting_is : (e c : ℕ) (p : P) (l : Line P) → Decides (stops_posting R s e c p l) (StopsPosting R s e c p l)
   stops_posting_is e c p l =
-      let ours = is_own_or_elder s.rows e l.holder in
-      let crossed = R.crosses p l.posting in (
-        λ h. (
-            let hs = and_parts (eqb l.cell c) (not ours && not crossed) h in
-            let ks = and_parts (not ours) (not crossed) hs.1 in
-            let apart : ours ≡ false = not-true ours ks.0 in
-            record {
-              on_cell = eqb-true l.cell c hs.0;
-              not_own = λ i. false≢true (sym apart ∙ or_left (eqb l.holder e) (is_among (elders s.rows e) l.holder) (eq-eqb l.holder e i));
-              not_elders = λ k. false≢true (sym apart ∙ or_right (eqb l.holder e) (is_among (elders s.rows e) l.holder) ((elders_are e l.holder).1 k));
-              not_crossed = not-true crossed ks.1;
-            }
-            ),
-        λ w. and_from (eqb l.cell c) (not ours && not crossed) (eq-eqb l.cell c w.on_cell)
-            (and_from (not ours) (not crossed)
-            (not_by ours (λ o. elim (or_cases (eqb l.holder e) (is_among (elders s.rows e) l.holder) o) [
-              | inl i ↦ w.not_own (eqb-true l.holder e i)
-              | inr k ↦ w.not_elders ((elders_are e l.holder).0 k)
-            ]))
-            (not_by crossed (λ cr. false≢true (sym w.not_crossed ∙ cr)))),
-      )
+      Decides-like _
+      (λ w. record { on_cell = w.0; not_own = λ i. w.1.0 (inl i); not_elders = λ k. w.1.0 (inr k); not_crossed = false_from_ne_true _ w.1.1 })
+      (λ w. (w.on_cell, ((λ o. elim o [ inl i ↦ w.not_own i | inr k ↦ w.not_elders k ]), both_ways _ w.not_crossed)))
+      (Decides-and _ _ (Decides-eqb l.cell c)
+      (Decides-and _ _ (Decides-not _ (Decides-or _ _ (Decides-eqb l.holder e) (elders_are e l.holder))) (Decides-not _ (crosses_is p l.posting))))
 
   stops_publishing_is : (e : ℕ) (m : Line P) → Decides (stops_publishing R s e m) (StopsPublishing R s e m)
   stops_publishing_is e m =
-      let clashes : Line P → Bool = λ l. eqb l.holder e && (eqb l.cell m.cell && not (R.crosses l.posting m.posting)) in
-      let elders_line = is_among (elders s.rows e) m.holder in (
-        λ h. (
-            let hs = and_parts elders_line (some_line clashes s.lines) h in
-            let found = some_among clashes s.lines hs.1 in
-            let l = found.0 in
-            let ks = and_parts (eqb l.holder e) (eqb l.cell m.cell && not (R.crosses l.posting m.posting)) found.2 in
-            let js = and_parts (eqb l.cell m.cell) (not (R.crosses l.posting m.posting)) ks.1 in
-            record {
-              elders = (elders_are e m.holder).0 hs.0;
-              line = l;
-              stands_too = found.1;
-              own = eqb-true l.holder e ks.0;
-              same_cell = eqb-true l.cell m.cell js.0;
-              not_crossed = not-true (R.crosses l.posting m.posting) js.1;
-            }
-            ),
-        λ w. (
-            let l = w.line in
-            and_from elders_line (some_line clashes s.lines) ((elders_are e m.holder).1 w.elders)
-            (among_some clashes s.lines l w.stands_too
-            (and_from (eqb l.holder e) (eqb l.cell m.cell && not (R.crosses l.posting m.posting)) (eq-eqb l.holder e w.own)
-            (and_from (eqb l.cell m.cell) (not (R.crosses l.posting m.posting)) (eq-eqb l.cell m.cell w.same_cell)
-            (not_by (R.crosses l.posting m.posting) (λ cr. false≢true (sym w.not_crossed ∙ cr))))))
-            ),
-      )
-
-  earliest_in_the_way : (e c : ℕ) (p : P) (h : ℕ) → DecidesSome (earliest_holder (stops_posting R s e c p) s.lines) h (Earliest (StopsPosting R s e c p) s.lines h)
-  earliest_in_the_way e c p h = (
-    earliest_is (stops_posting R s e c p) (StopsPosting R s e c p) (stops_posting_is e c p) s.lines h,
-    earliest_found (stops_posting R s e c p) (StopsPosting R s e c p) (stops_posting_is e c p) s.lines h,
-  )
-
-  earliest_held : (e h : ℕ) → DecidesSome (earliest_holder (stops_publishing R s e) s.lines) h (Earliest (StopsPublishing R s e) s.lines h)
-  earliest_held e h = (
-    earliest_is (stops_publishing R s e) (StopsPublishing R s e) (stops_publishing_is e) s.lines h,
-    earliest_found (stops_publishing R s e) (StopsPublishing R s e) (stops_publishing_is e) s.lines h,
-  )
+      Decides-like _
+      (λ w. record { elders = w.0; line = w.1.0; stands_too = w.1.1; own = w.1.2.0; same_cell = w.1.2.1.0; not_crossed = false_from_ne_true _ w.1.2.1.1 })
+      (λ w. (w.elders, (w.line, w.stands_too, (w.own, (w.same_cell, both_ways _ w.not_crossed)))))
+      (Decides-and _ _ (elders_are e m.holder)
+      (some_is _ _ (λ l. Decides-and _ _ (Decides-eqb l.holder e) (Decides-and _ _ (Decides-eqb l.cell m.cell) (Decides-not _ (crosses_is l.posting m.posting)))) s.lines))
 
   -- ---- each question says what it asks
 
@@ -104,92 +53,46 @@ module _ {V P O : Type 0} (R : Rules V P O) (s : State V P) (elders_are : (e x :
   numbers (Value c) = 1 ∷ 4 ∷ []
 
   tells : (call : Call P) → TellEach (λ r. Fails R s r call) (questions R s call) (numbers call)
-  tells (Begin q) =
-      let No : Refusal → Type 0 = λ r. Fails R s r (Begin q) in (
-        ask_tells No s.sound Unsound (λ h. h),
+  tells (Begin q) = (
+    ask_tells _ _ Unsound (λ h. h),
+    (
+      ask_tells _ _ NotStanding (λ h. (let hs = or_parts (eqb q 0) (stands s.rows q) h in (eqb-false q 0 hs.0, hs.1))),
+      (ask_tells _ _ NoFreeRow (ltb-false _ _), (ask_tells _ _ NoNumberLeft (ltb-false _ _), tt)),
+    ),
+  )
+  tells (Post e c p) = (
+    ask_tells _ _ Unsound (λ h. h),
+    (
+      ask_tells _ _ NotStanding (λ h. h),
+      (
+        ask_tells _ _ HasChild (λ h. h),
         (
-          ask_tells No (eqb q 0 || stands s.rows q) NotStanding (λ h. (let hs = or_parts (eqb q 0) (stands s.rows q) h in (eqb-false q 0 hs.0, hs.1))),
+          ask_tells _ _ NoSuchCell (ltb-false _ _),
           (
-            ask_tells No (ltb (length s.rows) s.row_room) NoFreeRow (ltb-false (length s.rows) s.row_room),
-            (
-              ask_tells No (ltb s.begun 65535) NoNumberLeft (ltb-false s.begun 65535),
-              tt,
-            ),
+            ask_tells _ _ UnlawfulPosting (λ h. h),
+            (holder_tells _ _ InTheWay 6 (λ h. refl) (earliest_is _ _ (stops_posting_is e c p) s.lines), (ask_tells _ _ NoFreeLine (ltb-false _ _), tt)),
           ),
         ),
-      )
-  tells (Post e c p) =
-      let No : Refusal → Type 0 = λ r. Fails R s r (Post e c p) in (
-        ask_tells No s.sound Unsound (λ h. h),
-        (
-          ask_tells No (stands s.rows e) NotStanding (λ h. h),
-          (
-            ask_tells No (childless s.rows e) HasChild (λ h. h),
-            (
-              ask_tells No (ltb c (length s.values)) NoSuchCell (ltb-false c (length s.values)),
-              (
-                ask_tells No (R.posting_lawful p) UnlawfulPosting (λ h. h),
-                (
-                  holder_tells No (earliest_holder (stops_posting R s e c p) s.lines) InTheWay 6 (λ h. refl) (λ h. (earliest_in_the_way e c p h).0),
-                  (
-                    ask_tells No (ltb (length s.lines) s.line_room) NoFreeLine (ltb-false (length s.lines) s.line_room),
-                    tt,
-                  ),
-                ),
-              ),
-            ),
-          ),
-        ),
-      )
-  tells (Keep e) =
-      let No : Refusal → Type 0 = λ r. Fails R s r (Keep e) in (
-        ask_tells No s.sound Unsound (λ h. h),
-        (
-          ask_tells No (stands s.rows e) NotStanding (λ h. h),
-          (
-            ask_tells No (childless s.rows e) HasChild (λ h. h),
-            tt,
-          ),
-        ),
-      )
-  tells (Publish e) =
-      let No : Refusal → Type 0 = λ r. Fails R s r (Publish e) in (
-        ask_tells No s.sound Unsound (λ h. h),
-        (
-          ask_tells No (stands s.rows e) NotStanding (λ h. h),
-          (
-            ask_tells No (childless s.rows e) HasChild (λ h. h),
-            (
-              holder_tells No (earliest_holder (stops_publishing R s e) s.lines) HeldByElder 7 (λ h. refl) (λ h. (earliest_held e h).0),
-              tt,
-            ),
-          ),
-        ),
-      )
-  tells (Abandon e) =
-      let No : Refusal → Type 0 = λ r. Fails R s r (Abandon e) in (
-        ask_tells No s.sound Unsound (λ h. h),
-        (
-          ask_tells No (stands s.rows e) NotStanding (λ h. h),
-          tt,
-        ),
-      )
-  tells (Value c) =
-      let No : Refusal → Type 0 = λ r. Fails R s r (Value c) in (
-        ask_tells No s.sound Unsound (λ h. h),
-        (
-          ask_tells No (ltb c (length s.values)) NoSuchCell (ltb-false c (length s.values)),
-          tt,
-        ),
-      )
+      ),
+    ),
+  )
+  tells (Keep e) = (ask_tells _ _ Unsound (λ h. h), (ask_tells _ _ NotStanding (λ h. h), (ask_tells _ _ HasChild (λ h. h), tt)))
+  tells (Publish e) = (
+    ask_tells _ _ Unsound (λ h. h),
+    (
+      ask_tells _ _ NotStanding (λ h. h),
+      (
+        ask_tells _ _ HasChild (λ h. h),
+        (holder_tells _ _ HeldByElder 7 (λ h. refl) (earliest_is _ _ (stops_publishing_is e) s.lines), tt),
+      ),
+    ),
+  )
+  tells (Abandon e) = (ask_tells _ _ Unsound (λ h. h), (ask_tells _ _ NotStanding (λ h. h), tt))
+  tells (Value c) = (ask_tells _ _ Unsound (λ h. h), (ask_tells _ _ NoSuchCell (ltb-false _ _), tt))
 
   numbers_rise : (call : Call P) → rise (numbers call) ≡ true
   numbers_rise (Begin q) = refl
-  numbers_rise (Post e c p) = refl
-  numbers_rise (Keep e) = refl
-  numbers_rise (Publish e) = refl
-  numbers_rise (Abandon e) = refl
-  numbers_rise (Value c) = refl
+  numbers_rise call = refl
 
   -- a question that fails is among those that the call is asked, and says so
   fails_said : (refusal : Refusal) (call : Call P) → Fails R s refusal call → IsSaid refusal (questions R s call)
@@ -199,60 +102,23 @@ module _ {V P O : Type 0} (R : Rules V P O) (s : State V P) (elders_are : (e x :
   fails_said NotStanding (Keep e) no_to = inr (inl (ap (λ b. ask b NotStanding) no_to))
   fails_said NotStanding (Publish e) no_to = inr (inl (ap (λ b. ask b NotStanding) no_to))
   fails_said NotStanding (Abandon e) no_to = inr (inl (ap (λ b. ask b NotStanding) no_to))
-  fails_said NotStanding (Value c) no_to = absurd no_to
-  fails_said HasChild (Begin q) no_to = absurd no_to
   fails_said HasChild (Post e c p) no_to = inr (inr (inl (ap (λ b. ask b HasChild) no_to)))
   fails_said HasChild (Keep e) no_to = inr (inr (inl (ap (λ b. ask b HasChild) no_to)))
   fails_said HasChild (Publish e) no_to = inr (inr (inl (ap (λ b. ask b HasChild) no_to)))
-  fails_said HasChild (Abandon e) no_to = absurd no_to
-  fails_said HasChild (Value c) no_to = absurd no_to
-  fails_said NoSuchCell (Begin q) no_to = absurd no_to
   fails_said NoSuchCell (Post e c p) no_to = inr (inr (inr (inl (ap (λ b. ask b NoSuchCell) (le-ltb c (length s.values) no_to)))))
-  fails_said NoSuchCell (Keep e) no_to = absurd no_to
-  fails_said NoSuchCell (Publish e) no_to = absurd no_to
-  fails_said NoSuchCell (Abandon e) no_to = absurd no_to
   fails_said NoSuchCell (Value c) no_to = inr (inl (ap (λ b. ask b NoSuchCell) (le-ltb c (length s.values) no_to)))
-  fails_said UnlawfulPosting (Begin q) no_to = absurd no_to
   fails_said UnlawfulPosting (Post e c p) no_to = inr (inr (inr (inr (inl (ap (λ b. ask b UnlawfulPosting) no_to)))))
-  fails_said UnlawfulPosting (Keep e) no_to = absurd no_to
-  fails_said UnlawfulPosting (Publish e) no_to = absurd no_to
-  fails_said UnlawfulPosting (Abandon e) no_to = absurd no_to
-  fails_said UnlawfulPosting (Value c) no_to = absurd no_to
-  fails_said (InTheWay h) (Begin q) no_to = absurd no_to
-  fails_said (InTheWay h) (Post e c p) no_to = inr (inr (inr (inr (inr (inl (ap (λ o. ask_holder o InTheWay) ((earliest_in_the_way e c p h).1 no_to)))))))
-  fails_said (InTheWay h) (Keep e) no_to = absurd no_to
-  fails_said (InTheWay h) (Publish e) no_to = absurd no_to
-  fails_said (InTheWay h) (Abandon e) no_to = absurd no_to
-  fails_said (InTheWay h) (Value c) no_to = absurd no_to
-  fails_said (HeldByElder h) (Begin q) no_to = absurd no_to
-  fails_said (HeldByElder h) (Post e c p) no_to = absurd no_to
-  fails_said (HeldByElder h) (Keep e) no_to = absurd no_to
-  fails_said (HeldByElder h) (Publish e) no_to = inr (inr (inr (inl (ap (λ o. ask_holder o HeldByElder) ((earliest_held e h).1 no_to)))))
-  fails_said (HeldByElder h) (Abandon e) no_to = absurd no_to
-  fails_said (HeldByElder h) (Value c) no_to = absurd no_to
+  fails_said (InTheWay h) (Post e c p) no_to = inr (inr (inr (inr (inr (inl (ap (λ o. ask_holder o InTheWay) (earliest_found _ _ (stops_posting_is e c p) s.lines h no_to)))))))
+  fails_said (HeldByElder h) (Publish e) no_to = inr (inr (inr (inl (ap (λ o. ask_holder o HeldByElder) (earliest_found _ _ (stops_publishing_is e) s.lines h no_to)))))
   fails_said NoFreeRow (Begin q) no_to = inr (inr (inl (ap (λ b. ask b NoFreeRow) (le-ltb (length s.rows) s.row_room no_to))))
-  fails_said NoFreeRow (Post e c p) no_to = absurd no_to
-  fails_said NoFreeRow (Keep e) no_to = absurd no_to
-  fails_said NoFreeRow (Publish e) no_to = absurd no_to
-  fails_said NoFreeRow (Abandon e) no_to = absurd no_to
-  fails_said NoFreeRow (Value c) no_to = absurd no_to
-  fails_said NoFreeLine (Begin q) no_to = absurd no_to
   fails_said NoFreeLine (Post e c p) no_to = inr (inr (inr (inr (inr (inr (inl (ap (λ b. ask b NoFreeLine) (le-ltb (length s.lines) s.line_room no_to))))))))
-  fails_said NoFreeLine (Keep e) no_to = absurd no_to
-  fails_said NoFreeLine (Publish e) no_to = absurd no_to
-  fails_said NoFreeLine (Abandon e) no_to = absurd no_to
-  fails_said NoFreeLine (Value c) no_to = absurd no_to
   fails_said NoNumberLeft (Begin q) no_to = inr (inr (inr (inl (ap (λ b. ask b NoNumberLeft) (le-ltb s.begun 65535 no_to)))))
-  fails_said NoNumberLeft (Post e c p) no_to = absurd no_to
-  fails_said NoNumberLeft (Keep e) no_to = absurd no_to
-  fails_said NoNumberLeft (Publish e) no_to = absurd no_to
-  fails_said NoNumberLeft (Abandon e) no_to = absurd no_to
-  fails_said NoNumberLeft (Value c) no_to = absurd no_to
+  fails_said refusal call no_to = absurd no_to
 
   says_why : (call : Call P) (refusal : Refusal) → (step R s call).answer ≡ Err refusal → Fails R s refusal call
   says_why call refusal h = elim (refused_by R s (first_no (questions R s call)) (taken R s call) refusal h) [
     | inl first ↦ first_says (λ r. Fails R s r call) (questions R s call) (numbers call) (tells call) refusal first
-    | inr effect ↦ taken_fails R s call refusal effect.1
+    | inr effect ↦ (effect_refused R s call refusal effect.1).1
   ]
 
   says_first : (call : Call P) (refusal : Refusal) → (step R s call).answer ≡ Err refusal → (other : Refusal) → number_of other < number_of refusal → Fails R s other call → ⊥
@@ -269,21 +135,14 @@ module _ {V P O : Type 0} (R : Rules V P O) (s : State V P) (elders_are : (e x :
   taken_fails_none call reply h refusal fails = none_said (questions R s call) (taken_by R s (first_no (questions R s call)) (taken R s call) reply h) refusal (fails_said refusal call fails)
 
 names_nobody : (refusal : Refusal) → (number_of refusal ≡ 6 → ⊥) → (number_of refusal ≡ 7 → ⊥) → holder_of refusal ≡ 0
-names_nobody Unsound six seven = refl
-names_nobody NotStanding six seven = refl
-names_nobody HasChild six seven = refl
-names_nobody NoSuchCell six seven = refl
-names_nobody UnlawfulPosting six seven = refl
 names_nobody (InTheWay h) six seven = absurd (six refl)
 names_nobody (HeldByElder h) six seven = absurd (seven refl)
-names_nobody NoFreeRow six seven = refl
-names_nobody NoFreeLine six seven = refl
-names_nobody NoNumberLeft six seven = refl
+names_nobody refusal six seven = refl
 
 -- where the list of elders names just the elders, every answer is right
 pub answers_rightly : {V P O : Type 0} (R : Rules V P O) (s : State V P) → ((e x : ℕ) → Decides (is_among (elders s.rows e) x) (Elder s.rows x e)) → AnswersRightly R s
 answers_rightly R s are = record {
-  leaves_all = λ call refusal h. leaves_by R s (first_no (questions R s call)) (taken R s call) refusal (taken_leaves R s call refusal) h;
+  leaves_all = λ call refusal h. leaves_by R s (first_no (questions R s call)) (taken R s call) refusal (λ e. (effect_refused R s call refusal e).0) h;
   says_why = says_why R s are;
   says_first = says_first R s are;
   taken_fails_none = taken_fails_none R s are;

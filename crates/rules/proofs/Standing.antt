@@ -1,14 +1,14 @@
 -- What stays true of rows, of a table of lines with their answers, of copies, and of what a fair copy comes to.
-use Rattle.std.proofs.Common.{◌≡◌, ℕ, Bool, true, ◌&&◌, eqb, ◌⊎◌, List, ◌∷◌, fold, filter, ap, ◌∙◌, subst, inl, inr}
+use Rattle.std.proofs.Common.{◌≡◌, ℕ, Bool, true, cond, eqb, ◌⊎◌, List, ◌∷◌, fold, filter, sym, ap, ◌∙◌, subst, inl, inr}
 use Rattle.std.specs.List.{AllByRecursion as All}
-use Rattle.std.proofs.lemmas.Bool.{eqb-true}
-use Rattle.std.proofs.ByRecursion.{All-weaker, all_kept_by}
+use Rattle.std.proofs.lemmas.Bool.{eqb-true, eqb-false, cond_both}
+use Rattle.std.proofs.ByRecursion.{All-weaker, all_kept_by, kept_by_passes}
 use Rattle.rules.specs.declared.rows.Row.{Row}
 use Rattle.rules.specs.Entries.{stands, is_among, is_own_or_elder}
 use Rattle.rules.specs.FairCopy.{EachInTurn}
 use Rattle.rules.proofs.Exchanges.{Same}
 use Rattle.rules.proofs.Bools.{and_implied}
-use Rattle.rules.proofs.Pairs.{Pairs, pairs_weaker, pairs_kept, all_passed}
+use Rattle.rules.proofs.Pairs.{Pairs, all_of, pairs_where, pairs_kept, all_passed}
 use Rattle.rules.proofs.Holdings.{Held, held, held_agree, held_kept, held_all}
 use Rattle.rules.proofs.Kinship.{Grown, Closed, rest, grown_rest, stands_rest, elders_rest}
 
@@ -43,38 +43,39 @@ left_of k table = filter (λ g. k g.holder) table
 
 module _ {X : Type 0} {OkItem : X → Type 0} {Cross : X → X → Type 0} {rows : List Row} {table : List (Held X)} (fr : Frame OkItem Cross rows table) where
   pub held_ok : (t : ℕ → Bool) → All OkItem (held t table)
-  held_ok t = held_all OkItem t table (All-weaker (λ g. OkItem g.item) (λ g. t g.holder ≡ true → OkItem g.item) (λ g o e. o) table fr.items_ok)
+  held_ok t = held_all OkItem t table (All-weaker _ _ (λ g o e. o) table fr.items_ok)
 
   module _ (k : ℕ → Bool) (closed : Closed k rows) where
     kin_rest : (e : ℕ) → k e ≡ true → (x : ℕ) → is_own_or_elder (rest k rows) e x ≡ is_own_or_elder rows e x
-    kin_rest e h x = ap (λ l. is_among (e ∷ l) x) (elders_rest k rows closed e h)
+    kin_rest e h x = ap (λ l. is_among (e ∷ l) x) (elders_rest k rows fr.grown closed e h)
 
     pub frame_rest : Frame OkItem Cross (rest k rows) (left_of k table)
     frame_rest = record {
       grown = grown_rest k rows fr.grown closed;
-      holders = all_passed (λ g. stands (rest k rows) g.holder ≡ true) (λ g. k g.holder) table
-          (All-weaker (λ g. stands rows g.holder ≡ true) (λ g. k g.holder ≡ true → stands (rest k rows) g.holder ≡ true) (λ g s h. stands_rest k rows g.holder s h) table fr.holders);
-      items_ok = all_kept_by (λ g. k g.holder) (λ g. OkItem g.item) table fr.items_ok;
-      order = pairs_weaker (λ g. k g.holder ≡ true) (Ordered Cross rows) (Ordered Cross (rest k rows))
-          (λ g m kg km o. elim o [ inl c ↦ inl c | inr h ↦ inr (kin_rest m.holder km g.holder ∙ h) ])
-          (left_of k table)
-          (all_passed (λ g. k g.holder ≡ true) (λ g. k g.holder) table (All-weaker (λ g. OkItem g.item) (λ g. k g.holder ≡ true → k g.holder ≡ true) (λ g o h. h) table fr.items_ok))
-          (pairs_kept (Ordered Cross rows) (λ g. k g.holder) table fr.order);
+      holders = all_passed _ (λ g. k g.holder) table (All-weaker _ _ (λ g s h. stands_rest k rows g.holder s h) table fr.holders);
+      items_ok = all_kept_by (λ g. k g.holder) _ table fr.items_ok;
+      order = pairs_where (λ g m kg km o. elim o [ inl c ↦ inl c | inr h ↦ inr (kin_rest m.holder km g.holder ∙ h) ])
+          (left_of k table) (kept_by_passes (λ g. k g.holder) table) (pairs_kept _ (λ g. k g.holder) table fr.order);
     }
 
     -- what one that stays sees is left
     pub seen_rest : (f : ℕ) → k f ≡ true → held (is_own_or_elder (rest k rows) f) (left_of k table) ≡ held (is_own_or_elder rows f) table
     seen_rest f h =
-        ap (λ l. held (is_among (f ∷ l)) (left_of k table)) (elders_rest k rows closed f h)
+        ap (λ l. held (is_among (f ∷ l)) (left_of k table)) (elders_rest k rows fr.grown closed f h)
         ∙ held_kept k (is_own_or_elder rows f) table
-        ∙ held_agree (λ x. k x && is_own_or_elder rows f x) (is_own_or_elder rows f) table
-        (All-weaker (λ g. OkItem g.item) (λ g. (k g.holder && is_own_or_elder rows f g.holder) ≡ is_own_or_elder rows f g.holder) (λ g o. and_implied (k g.holder) (is_own_or_elder rows f g.holder) (closed f g.holder h)) table fr.items_ok)
+        ∙ held_agree _ _ table (all_of (λ g. and_implied (k g.holder) (is_own_or_elder rows f g.holder) (closed f g.holder h)) table)
 
   pub own_rest : (k : ℕ → Bool) (f : ℕ) → k f ≡ true → held (own f) (left_of k table) ≡ held (own f) table
   own_rest k f h =
       held_kept k (own f) table
-      ∙ held_agree (λ x. k x && own f x) (own f) table
-      (All-weaker (λ g. OkItem g.item) (λ g. (k g.holder && own f g.holder) ≡ own f g.holder) (λ g o. and_implied (k g.holder) (own f g.holder) (λ e. ap k (eqb-true g.holder f e) ∙ h)) table fr.items_ok)
+      ∙ held_agree _ _ table (all_of (λ g. and_implied (k g.holder) (own f g.holder) (λ e. ap k (eqb-true g.holder f e) ∙ h)) table)
+
+-- a copy of one entry is another, and is what this one holds
+pub copied_with : {X : Type 0} {Cross : X → X → Type 0} (table : List (Held X)) (copies : ℕ → List X) (n : ℕ) (l : List X) → Same Cross l (held (own n) table)
+    → (f : ℕ) → ((f ≡ n → ⊥) → Same Cross (copies f) (held (own f) table)) → Same Cross (cond (eqb f n) l (copies f)) (held (own f) table)
+copied_with {Cross = Cross} table copies n l here f there =
+    cond_both (eqb f n) l (copies f) (λ xs. Same Cross xs (held (own f) table))
+    (λ t. subst (λ y. Same Cross l (held (own y) table)) (sym (eqb-true f n t)) here) (λ d. there (eqb-false f n d))
 
 -- only the copies of standing entries count
 pub other_copies : {V X : Type 0} {after : V → X → V} {Right : V → X → Type 0} {OkValue : V → Type 0} {OkItem : X → Type 0} {Cross : X → X → Type 0}

@@ -1,8 +1,7 @@
 -- Every call upholds what ties the register to the book.
-use Rattle.std.proofs.Common.{◌≡◌, ℕ, ◌+◌, ◌<◌, Bool, true, false, cond, not, ◌&&◌, ◌||◌, eqb, ◌⊎◌, List, [], ◌∷◌, ◌++◌, map, None, fold, filter, sym, refl, ap, ◌∙◌, subst, inl, inr, arith}
-use mathlib.Core.Bool.{false≢true}
+use Rattle.std.proofs.Common.{◌≡◌, ℕ, ◌+◌, ◌<◌, Bool, true, false, cond, not, ◌&&◌, eqb, ◌⊎◌, List, [], ◌∷◌, ◌++◌, map, None, fold, filter, sym, refl, ap, ◌∙◌, subst, inl, inr, arith}
 use Rattle.std.specs.List.{AllByRecursion as All}
-use Rattle.std.proofs.lemmas.Bool.{eqb-true, eqb-false, eq-eqb, ne_eqb, or_cases, cases_eq, and_cases, not-false}
+use Rattle.std.proofs.lemmas.Bool.{cond_both, false_from_ne_true, eqb-true, eqb-false, or_cases, and_cases, not-false, both_ways}
 use Rattle.std.proofs.ByRecursion.{All-weaker}
 use Rattle.std.proofs.lemmas.List.{map_push}
 use Rattle.cells.specs.Kinds.{Rules, CrossingLaw}
@@ -12,7 +11,6 @@ use Rattle.rules.specs.declared.lines.Line.{Line}
 use Rattle.rules.specs.declared.calls.Call.{Call}
 use Rattle.rules.specs.declared.calls.Call.TheVariants.{Begin, Post, Keep, Publish, Abandon, Value}
 use Rattle.rules.specs.declared.refusals.Refusal.{Refusal}
-use Rattle.rules.specs.declared.refusals.Refusal.TheVariants.{NotStanding, HasChild, UnlawfulPosting, InTheWay, HeldByElder}
 use Rattle.rules.specs.Entries.{stands, childless, parent_of, elders, is_among, is_own_or_elder, without, outside}
 use Rattle.rules.specs.Cells.{value_at, of_value}
 use Rattle.rules.specs.States.{State}
@@ -21,6 +19,7 @@ use Rattle.rules.specs.Books.{Copied, Copy, then_line, then_block, lines_of, Boo
 use Rattle.rules.specs.FairCopy.{Event, post_line, GetsItsAnswer}
 use Rattle.rules.proofs.Holdings.{Held, held, renamed}
 use Rattle.rules.proofs.Kinship.{Grown, stood, stands_rest, others, not_other, joined_cases, elders_top, elders_inner, no_child}
+use Rattle.rules.proofs.Pairs.{all_of}
 use Rattle.rules.proofs.Standing.{Core, left_of, other_copies}
 use Rattle.rules.proofs.Beginning.{began}
 use Rattle.rules.proofs.Posting.{posted}
@@ -58,7 +57,7 @@ module _ {V P O : Type 0} (R : Rules V P O) (law : CrossingLaw R) (first : List 
   begin_good : (q : ℕ) → AllYes (further_questions R s (Begin q)) → Good (Begin q) (taken R s (Begin q))
   begin_good q ys =
       let n = s.begun + 1 in
-      let parent_ok : (q ≡ 0) ⊎ (stands s.rows q ≡ true) = elim (or_cases (eqb q 0) (stands s.rows q) (ask_yes (eqb q 0 || stands s.rows q) NotStanding ys.0)) [ inl i ↦ inl (eqb-true q 0 i) | inr t ↦ inr t ] in
+      let parent_ok : (q ≡ 0) ⊎ (stands s.rows q ≡ true) = elim (or_cases (eqb q 0) (stands s.rows q) (ask_yes _ _ ys.0)) [ inl i ↦ inl (eqb-true q 0 i) | inr t ↦ inr t ] in
       let fresh : stands (rows_of b.pages) n ≡ true → ⊥ = λ t. (let l : n < n = up.numbered n (subst (λ rs. stands rs n ≡ true) up.rows_are t) in omega arith) in
       record {
         table = up.table;
@@ -66,10 +65,9 @@ module _ {V P O : Type 0} (R : Rules V P O) (law : CrossingLaw R) (first : List 
         rows_are = rows_pushed b.pages n q ∙ ap (λ rs. rs ++ (record { entry = n; parent = q } ∷ [])) up.rows_are;
         numbered = λ e st. elim (joined_cases s.rows n q up.numbered e st) [ inl i ↦ omega arith | inr t ↦ (let l : e < n = up.numbered e t in omega arith) ];
         core = other_copies (lines_at (with_begun b n q))
-            (λ e st. elim (cases_eq e n) [
-              | inl i ↦ ap (λ t. cond t [] (lines_at b e)) (eq-eqb e n i) ∙ sym (ap lines_of (copy_pushed b.pages n q e ∙ ap (copy_of b.pages) i ∙ copy_none b.pages n fresh))
-              | inr d ↦ ap (λ t. cond t [] (lines_at b e)) (ne_eqb e n d) ∙ sym (ap lines_of (copy_pushed b.pages n q e))
-            ])
+            (λ e st. cond_both (eqb e n) [] (lines_at b e) (λ l. l ≡ lines_at (with_begun b n q) e)
+            (λ t. sym (ap lines_of (copy_pushed b.pages n q e ∙ ap (copy_of b.pages) (eqb-true e n t) ∙ copy_none b.pages n (false_from_ne_true _ fresh))))
+            (λ d. sym (ap lines_of (copy_pushed b.pages n q e))))
             (began up.core n q up.numbered (omega arith) parent_ok);
       }
 
@@ -79,7 +77,7 @@ module _ {V P O : Type 0} (R : Rules V P O) (law : CrossingLaw R) (first : List 
   none_in_way : (e c : ℕ) (p : P) (x : O) → earliest_holder (stops_posting R s e c p) s.lines ≡ None
       → All (λ g. Crosses R g.item (record { cell = c; posting = p; answer = x }) ⊎ (is_own_or_elder s.rows e g.holder ≡ true)) up.table
   none_in_way e c p x none =
-      All-weaker (λ g. stops_posting R s e c p (bare g) ≡ false) (λ g. Crosses R g.item (record { cell = c; posting = p; answer = x }) ⊎ (is_own_or_elder s.rows e g.holder ≡ true))
+      All-weaker _ _
       (λ g h. (
       let ours = is_own_or_elder s.rows e g.holder in
       let crossed = R.crosses p g.item.posting in
@@ -104,22 +102,19 @@ module _ {V P O : Type 0} (R : Rules V P O) (law : CrossingLaw R) (first : List 
   post_good e c p ys = valued (Good (Post e c p)) s (seen R s e c) (λ v. _) (turned (Post e c p))
       (λ v is. (
       let line : Copied P O = record { cell = c; posting = p; answer = R.answer v p } in
-      let st = ask_yes (stands s.rows e) NotStanding ys.0 in
+      let st = ask_yes _ _ ys.0 in
       record {
         table = up.table ++ (record { holder = e; item = line } ∷ []);
         lines_are = ap (λ ls. ls ++ (record { holder = e; cell = c; posting = p } ∷ [])) up.lines_are ∙ sym (map_push bare up.table (record { holder = e; item = line }));
         rows_are = rows_written e (λ copy. then_line copy line) b.pages ∙ up.rows_are;
         numbered = up.numbered;
         core = other_copies (lines_at (with_line b e line))
-            (λ f sf. elim (cases_eq f e) [
-              | inl i ↦ ap (λ t. cond t (lines_at b e ++ (line ∷ [])) (lines_at b f)) (eq-eqb f e i)
-                  ∙ sym (ap lines_of (ap (copy_of (with_line b e line).pages) i ∙ copy_written e (λ copy. then_line copy line) b.pages (in_book e st)))
-              | inr d ↦ ap (λ t. cond t (lines_at b e ++ (line ∷ [])) (lines_at b f)) (ne_eqb f e d)
-                  ∙ sym (ap lines_of (copy_unwritten e (λ copy. then_line copy line) b.pages f d))
-            ])
-            (posted (laws R law) up.core e line st (ask_yes (childless s.rows e) HasChild ys.1.0) (ask_yes (R.posting_lawful p) UnlawfulPosting ys.1.1.1.0)
+            (λ f sf. cond_both (eqb f e) (lines_at b e ++ (line ∷ [])) (lines_at b f) (λ l. l ≡ lines_at (with_line b e line) f)
+            (λ t. sym (ap lines_of (ap (copy_of (with_line b e line).pages) (eqb-true f e t) ∙ copy_written e (λ copy. then_line copy line) b.pages (in_book e st))))
+            (λ d. sym (ap lines_of (copy_unwritten e (λ copy. then_line copy line) b.pages f (eqb-false f e d)))))
+            (posted (laws R law) up.core e line st (ask_yes _ _ ys.1.0) (ask_yes _ _ ys.1.1.1.0)
             (ap (of_value (λ w. R.answer w p)) (seen_at e c ∙ is))
-            (none_in_way e c p (R.answer v p) (ask_holder_yes (earliest_holder (stops_posting R s e c p) s.lines) InTheWay ys.1.1.1.1.0)));
+            (none_in_way e c p (R.answer v p) (ask_holder_yes _ _ ys.1.1.1.1.0)));
       }
       ))
 
@@ -143,15 +138,15 @@ module _ {V P O : Type 0} (R : Rules V P O) (law : CrossingLaw R) (first : List 
   -- what question 7 finds: each line of the entry crosses each line that an elder holds on its cell
   none_withheld : (e : ℕ) → earliest_holder (stops_publishing R s e) s.lines ≡ None → LetsOut e
   none_withheld e none =
-      All-weaker (λ g. stops_publishing R s e (bare g) ≡ false) (λ g. All (Out (laws R law) up.core e g) up.table)
+      All-weaker _ _
       (λ g h. (
       let elders_line = is_among (elders s.rows e) g.holder in
       let clashes : Line P → Bool = λ l. eqb l.holder e && (eqb l.cell g.item.cell && not (R.crosses l.posting g.item.posting)) in
       elim (and_cases elders_line (some_line clashes s.lines) h) [
-        | inl d ↦ All-weaker (λ m. LawfulLine R m.item) (Out (laws R law) up.core e g) (λ m o k a. absurd (false≢true (sym d ∙ k))) up.table up.core.frame.items_ok
-        | inr o ↦ All-weaker (λ m. clashes (bare m) ≡ false) (Out (laws R law) up.core e g)
+        | inl d ↦ all_of (λ m k a. absurd (both_ways _ d k)) up.table
+        | inr o ↦ All-weaker _ _
             (λ m t k a. elim (and_cases (eqb m.holder e) (eqb m.item.cell g.item.cell && not (R.crosses m.item.posting g.item.posting)) t) [
-              | inl d ↦ absurd (false≢true (sym d ∙ a))
+              | inl d ↦ absurd (both_ways _ d a)
               | inr u ↦ elim (and_cases (eqb m.item.cell g.item.cell) (not (R.crosses m.item.posting g.item.posting)) u) [
                 | inl d ↦ inl (eqb-false m.item.cell g.item.cell d)
                 | inr cr ↦ inr (not-false (R.crosses m.item.posting g.item.posting) cr)
@@ -165,18 +160,14 @@ module _ {V P O : Type 0} (R : Rules V P O) (law : CrossingLaw R) (first : List 
 
   publish_good : (e : ℕ) → AllYes (further_questions R s (Publish e)) → Good (Publish e) (taken R s (Publish e))
   publish_good e ys =
-      commit_good e (ask_yes (stands s.rows e) NotStanding ys.0) (ask_yes (childless s.rows e) HasChild ys.1.0)
-      (none_withheld e (ask_holder_yes (earliest_holder (stops_publishing R s e) s.lines) HeldByElder ys.1.1.0))
+      commit_good e (ask_yes _ _ ys.0) (ask_yes _ _ ys.1.0)
+      (none_withheld e (ask_holder_yes _ _ ys.1.1.0))
 
   -- a top entry has no elders that could hold a line
   top_good : (e : ℕ) → stands s.rows e ≡ true → childless s.rows e ≡ true → parent_of s.rows e ≡ 0 → Upheld R first (committed_state R s e) (with_fair_block b e)
   top_good e st ch top =
       commit_good e st ch
-      (All-weaker (λ g. LawfulLine R g.item) (λ g. All (Out (laws R law) up.core e g) up.table)
-      (λ g o. All-weaker (λ m. LawfulLine R m.item) (Out (laws R law) up.core e g)
-      (λ m u k a. absurd (false≢true (subst (λ l. is_among l g.holder ≡ true) (elders_top s.rows e top) k)))
-      up.table up.core.frame.items_ok)
-      up.table up.core.frame.items_ok)
+      (all_of (λ g. all_of (λ m k a. cc (subst (λ l. is_among l g.holder ≡ true) (elders_top s.rows e top) k)) up.table) up.table)
 
   -- ---- an inner keep
 
@@ -194,13 +185,9 @@ module _ {V P O : Type 0} (R : Rules V P O) (law : CrossingLaw R) (first : List 
         rows_are = rows_written q more left ∙ rows_left (others e) b.pages ∙ ap (without e) up.rows_are;
         numbered = λ f sf. up.numbered f (stood (others e) s.rows f sf).0;
         core = other_copies (lines_at (with_block b e q))
-            (λ f sf. elim (cases_eq f q) [
-              | inl i ↦ ap (λ t. cond t (lines_at b q ++ lines_at b e) (lines_at b f)) (eq-eqb f q i)
-                  ∙ ap (λ copy. lines_of copy ++ lines_at b e) (sym (copy_left (others e) b.pages q (not_other e q ne)))
-                  ∙ sym (ap lines_of (ap (copy_of (with_block b e q).pages) i ∙ copy_written q more left q_left))
-              | inr d ↦ ap (λ t. cond t (lines_at b q ++ lines_at b e) (lines_at b f)) (ne_eqb f q d)
-                  ∙ sym (ap lines_of (copy_unwritten q more left f d ∙ copy_left (others e) b.pages f (stood (others e) s.rows f sf).1))
-            ])
+            (λ f sf. cond_both (eqb f q) (lines_at b q ++ lines_at b e) (lines_at b f) (λ l. l ≡ lines_at (with_block b e q) f)
+            (λ t. ap (λ copy. lines_of copy ++ lines_at b e) (sym (copy_left (others e) b.pages q (not_other e q ne))) ∙ sym (ap lines_of (ap (copy_of (with_block b e q).pages) (eqb-true f q t) ∙ copy_written q more left q_left)))
+            (λ d. sym (ap lines_of (copy_unwritten q more left f (eqb-false f q d) ∙ copy_left (others e) b.pages f (stood (others e) s.rows f sf).1))))
             (passed (laws R law) up.core e q st ch (elders_inner s.rows grown e inner) sq ne);
       }
 
@@ -212,7 +199,7 @@ module _ {V P O : Type 0} (R : Rules V P O) (law : CrossingLaw R) (first : List 
   keep_good : (e : ℕ) → AllYes (further_questions R s (Keep e)) → Good (Keep e) (taken R s (Keep e))
   keep_good e ys =
       subst (λ rs. Upheld R first (kept_state R s e) (cond (eqb (parent_of rs e) 0) (with_fair_block b e) (with_block b e (parent_of rs e)))) (sym up.rows_are)
-      (keep_cond e (eqb (parent_of s.rows e) 0) refl (ask_yes (stands s.rows e) NotStanding ys.0) (ask_yes (childless s.rows e) HasChild ys.1.0))
+      (keep_cond e (eqb (parent_of s.rows e) 0) refl (ask_yes _ _ ys.0) (ask_yes _ _ ys.1.0))
 
   -- ---- abandon and value
 

@@ -1,6 +1,7 @@
 -- Lines on cells, as things that change all the values: lines on different cells cross, and lines on one cell as their kind says.
-use Rattle.std.proofs.Common.{◌≡◌, ℕ, zero, suc, Bool, true, false, cond, ◌&&◌, eqb, ◌⊎◌, List, [], ◌∷◌, map, Some, fold, filter, sym, refl, ap, ◌∙◌, subst, inl, inr}
+use Rattle.std.proofs.Common.{◌≡◌, ℕ, zero, suc, Bool, true, false, cond, ◌&&◌, eqb, ◌⊎◌, List, [], ◌∷◌, map, Some, None, Option, fold, filter, sym, refl, ap, ◌∙◌, subst, inl, inr}
 use Rattle.std.proofs.lemmas.Bool.{eqb-true, eqb-false, cases_eq, and_parts, and_from}
+use Rattle.std.proofs.lemmas.Iterator.Adapters.{option_map_id}
 use Rattle.cells.specs.Kinds.{Rules, CrossingLaw}
 use Rattle.cells.specs.Sequences.{after_all}
 use Rattle.rules.specs.declared.lines.Line.{Line}
@@ -10,35 +11,32 @@ use Rattle.rules.specs.Calls.{commit, held_by}
 use Rattle.rules.specs.Books.{Copied}
 use Rattle.rules.specs.FairCopy.{post_line, GetsItsAnswer}
 use Rattle.rules.proofs.Exchanges.{Laws}
-use Rattle.rules.proofs.Options.{of_value_same, of_value_twice}
 use Rattle.rules.proofs.Holdings.{Held, held}
 use Rattle.rules.proofs.Standing.{own}
 
 -- ---- one cell
 
+of_value_twice : {V W Z : Type 0} (f : W → Z) (g : V → W) (o : Option V) → of_value f (of_value g o) ≡ of_value (λ v. f (g v)) o
+of_value_twice f g None = refl
+of_value_twice f g (Some v) = refl
+
 value_same : {V : Type 0} (f : V → V) (vs : List V) (c : ℕ) → value_at (change_at f vs c) c ≡ of_value f (value_at vs c)
-value_same f [] c = refl
-value_same f (v ∷ vs) zero = refl
 value_same f (v ∷ vs) (suc c) = value_same f vs c
+value_same f vs c = refl
 
 value_other : {V : Type 0} (f : V → V) (vs : List V) (c d : ℕ) → (d ≡ c → ⊥) → value_at (change_at f vs c) d ≡ value_at vs d
-value_other f [] c d ne = refl
 value_other f (v ∷ vs) zero zero ne = absurd (ne refl)
-value_other f (v ∷ vs) zero (suc d) ne = refl
-value_other f (v ∷ vs) (suc c) zero ne = refl
 value_other f (v ∷ vs) (suc c) (suc d) ne = value_other f vs c d (λ i. ne (ap suc i))
+value_other f vs c d ne = refl
 
 change_twice : {V : Type 0} (f g : V → V) (vs : List V) (c : ℕ) → change_at g (change_at f vs c) c ≡ change_at (λ v. g (f v)) vs c
-change_twice f g [] c = refl
-change_twice f g (v ∷ vs) zero = refl
 change_twice f g (v ∷ vs) (suc c) = ap (λ ws. v ∷ ws) (change_twice f g vs c)
+change_twice f g vs c = refl
 
 change_other : {V : Type 0} (f g : V → V) (vs : List V) (c d : ℕ) → (c ≡ d → ⊥) → change_at g (change_at f vs c) d ≡ change_at f (change_at g vs d) c
-change_other f g [] c d ne = refl
 change_other f g (v ∷ vs) zero zero ne = absurd (ne refl)
-change_other f g (v ∷ vs) zero (suc d) ne = refl
-change_other f g (v ∷ vs) (suc c) zero ne = refl
 change_other f g (v ∷ vs) (suc c) (suc d) ne = ap (λ ws. v ∷ ws) (change_other f g vs c d (λ i. ne (ap suc i)))
+change_other f g vs c d ne = refl
 
 -- ---- lawful values
 
@@ -46,18 +44,18 @@ module _ {V P O : Type 0} (R : Rules V P O) where
   -- changes that agree on lawful values
   change_agree : (f g : V → V) → ((v : V) → R.value_lawful v ≡ true → f v ≡ g v) → (vs : List V) (c : ℕ) → all_lawful R vs ≡ true → change_at f vs c ≡ change_at g vs c
   change_agree f g h [] c o = refl
-  change_agree f g h (v ∷ vs) zero o = ap (λ w. w ∷ vs) (h v (and_parts (R.value_lawful v) (all_lawful R vs) o).0)
-  change_agree f g h (v ∷ vs) (suc c) o = ap (λ ws. v ∷ ws) (change_agree f g h vs c (and_parts (R.value_lawful v) (all_lawful R vs) o).1)
+  change_agree f g h (v ∷ vs) zero o = ap (λ w. w ∷ vs) (h v (and_parts _ _ o).0)
+  change_agree f g h (v ∷ vs) (suc c) o = ap (λ ws. v ∷ ws) (change_agree f g h vs c (and_parts _ _ o).1)
 
   read_agree : {W : Type 0} (f g : V → W) → ((v : V) → R.value_lawful v ≡ true → f v ≡ g v) → (vs : List V) (c : ℕ) → all_lawful R vs ≡ true → of_value f (value_at vs c) ≡ of_value g (value_at vs c)
   read_agree f g h [] c o = refl
-  read_agree f g h (v ∷ vs) zero o = ap (λ w. Some w) (h v (and_parts (R.value_lawful v) (all_lawful R vs) o).0)
-  read_agree f g h (v ∷ vs) (suc c) o = read_agree f g h vs c (and_parts (R.value_lawful v) (all_lawful R vs) o).1
+  read_agree f g h (v ∷ vs) zero o = ap (λ w. Some w) (h v (and_parts _ _ o).0)
+  read_agree f g h (v ∷ vs) (suc c) o = read_agree f g h vs c (and_parts _ _ o).1
 
   change_lawful : (f : V → V) → ((v : V) → R.value_lawful v ≡ true → R.value_lawful (f v) ≡ true) → (vs : List V) (c : ℕ) → all_lawful R vs ≡ true → all_lawful R (change_at f vs c) ≡ true
   change_lawful f h [] c o = o
-  change_lawful f h (v ∷ vs) zero o = let os = and_parts (R.value_lawful v) (all_lawful R vs) o in and_from (R.value_lawful (f v)) (all_lawful R vs) (h v os.0) os.1
-  change_lawful f h (v ∷ vs) (suc c) o = let os = and_parts (R.value_lawful v) (all_lawful R vs) o in and_from (R.value_lawful v) (all_lawful R (change_at f vs c)) os.0 (change_lawful f h vs c os.1)
+  change_lawful f h (v ∷ vs) zero o = let os = and_parts _ _ o in and_from _ _ (h v os.0) os.1
+  change_lawful f h (v ∷ vs) (suc c) o = let os = and_parts _ _ o in and_from _ _ os.0 (change_lawful f h vs c os.1)
 
   abbrev pub LawfulValues : List V → Type 0
   LawfulValues vs = all_lawful R vs ≡ true
@@ -126,13 +124,13 @@ bare g = record { holder = g.holder; cell = g.item.cell; posting = g.item.postin
 
 module _ {V P O : Type 0} (R : Rules V P O) where
   -- what is stored of the lines that an entry holds
-  commit_cond : (b : Bool) (g : Held (Copied P O)) (vs : List V) (ls : List (Line P)) (xs : List (Copied P O)) → ((ws : List V) → commit R ws ls ≡ fold (post_line R) ws xs) → commit R vs (cond b (bare g ∷ ls) ls) ≡ fold (post_line R) vs (cond b (g.item ∷ xs) xs)
-  commit_cond true g vs ls xs f = f (post_line R vs g.item)
-  commit_cond false g vs ls xs f = f vs
-
   pub commit_is : (e : ℕ) (gs : List (Held (Copied P O))) (vs : List V) → commit R vs (held_by e (map bare gs)) ≡ fold (post_line R) vs (held (own e) gs)
   commit_is e [] vs = refl
-  commit_is e (g ∷ gs) vs = commit_cond (own e g.holder) g vs (held_by e (map bare gs)) (held (own e) gs) (commit_is e gs)
+  commit_is e (g ∷ gs) vs =
+      let ls = held_by e (map bare gs) in
+      let xs = held (own e) gs in
+      elim (own e g.holder) as (λ b. commit R vs (cond b (bare g ∷ ls) ls) ≡ fold (post_line R) vs (cond b (g.item ∷ xs) xs))
+      [ true ↦ commit_is e gs (post_line R vs g.item) | false ↦ commit_is e gs vs ]
 
   -- what is seen of the lines whose holders pass a test
   abbrev on : (ℕ → Bool) → ℕ → Line P → Bool
@@ -156,5 +154,5 @@ module _ {V P O : Type 0} (R : Rules V P O) where
   seen_cond c false false g vs ls xs e f = f vs
 
   pub seen_is : (c : ℕ) (t : ℕ → Bool) (gs : List (Held (Copied P O))) (vs : List V) → value_at (fold (post_line R) vs (held t gs)) c ≡ of_value (changed (filter (on t c) (map bare gs))) (value_at vs c)
-  seen_is c t [] vs = of_value_same (value_at vs c)
+  seen_is c t [] vs = sym (option_map_id (value_at vs c))
   seen_is c t (g ∷ gs) vs = seen_cond c (eqb g.item.cell c) (t g.holder) g vs (filter (on t c) (map bare gs)) (held t gs) refl (seen_is c t gs)

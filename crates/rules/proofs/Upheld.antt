@@ -3,7 +3,7 @@ use Rattle.std.proofs.Common.{◌≡◌, ℕ, ◌+◌, ◌<◌, Bool, true, fals
 use Rattle.std.specs.List.{AllByRecursion as All}
 use Rattle.cells.specs.Kinds.{Rules}
 use Rattle.rules.specs.declared.calls.Call.{Call}
-use Rattle.rules.specs.declared.calls.Call.TheVariants.{Begin, Post, Keep, Publish, Abandon, Value}
+use Rattle.rules.specs.declared.calls.Call.TheVariants.{Begin}
 use Rattle.rules.specs.declared.refusals.Refusal.{Refusal}
 use Rattle.rules.specs.Entries.{stands}
 use Rattle.rules.specs.States.{State}
@@ -13,7 +13,6 @@ use Rattle.rules.specs.FairCopy.{post_line, GetsItsAnswer}
 use Rattle.rules.proofs.Holdings.{Held}
 use Rattle.rules.proofs.Standing.{Core}
 use Rattle.rules.proofs.Stores.{LawfulValues, LawfulLine, Crosses, bare}
-use Rattle.rules.proofs.Options.{some_not_none}
 
 -- the lines of an entry's copy
 abbrev pub lines_at : {P O : Type 0} → Book P O → ℕ → List (Copied P O)
@@ -31,11 +30,11 @@ pub record Upheld {V P O : Type 0} (R : Rules V P O) (first : List V) (s : State
 
 pub ask_yes : (b : Bool) (refusal : Refusal) → ask b refusal ≡ None → b ≡ true
 ask_yes true refusal h = refl
-ask_yes false refusal h = absurd (some_not_none refusal h)
+ask_yes false refusal h = cc
 
 pub ask_holder_yes : (o : Option ℕ) (refusal : ℕ → Refusal) → ask_holder o refusal ≡ None → o ≡ None
 ask_holder_yes None refusal h = refl
-ask_holder_yes (Some holder) refusal h = absurd (some_not_none (refusal holder) h)
+ask_holder_yes (Some holder) refusal h = cc
 
 abbrev pub AllYes : List (Option Refusal) → Type 0
 AllYes qs = All (λ q. q ≡ None) qs
@@ -53,8 +52,4 @@ valued Z s (Some v) outcome away f = f v refl
 -- for a call that is turned away the book writes nothing
 pub unwritten : (V : Type 0) {P O : Type 0} (b : Book P O) (call : Call P) (refusal : Refusal) → write {V = V} b call (Err refusal) ≡ b
 unwritten V b (Begin q) r = refl
-unwritten V b (Post e c p) r = refl
-unwritten V b (Keep e) r = refl
-unwritten V b (Publish e) r = refl
-unwritten V b (Abandon e) r = refl
-unwritten V b (Value c) r = refl
+unwritten V b call r = refl
