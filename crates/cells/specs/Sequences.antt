@@ -1,15 +1,15 @@
 -- Postings one after another, and what it means that the place of one among others makes no difference. Assumes nothing.
-use Rattle.std.specs.Prelude.{◌≡◌, ℕ, true, cond, List, [], ◌∷◌, ◌++◌, length, take, drop, fold, Some, None, Option}
+use Rattle.std.specs.Prelude.{◌≡◌, ℕ, true, if◌then◌else◌, List, [], ◌∷◌, ◌++◌, length, take, drop, fold, Some, None, Option}
 use Rattle.std.specs.List.{AllWithin}
 use Rattle.cells.specs.Kinds.{Rules}
 
 module _ {V P O : Type 0} (R : Rules V P O) where
   -- one posting on a value: its answer, and the value that it leaves; an unlawful one gets none and leaves the value
   abbrev pub answer_to : V → P → Option O
-  answer_to v p = cond (R.posting_lawful p) (Some (R.answer v p)) None
+  answer_to v p = if R.posting_lawful p then Some (R.answer v p) else None
 
   abbrev pub value_left : V → P → V
-  value_left v p = cond (R.posting_lawful p) (R.after v p) v
+  value_left v p = if R.posting_lawful p then R.after v p else v
 
   -- the value after all of a list of postings, made in their order
   abbrev pub after_all : V → List P → V

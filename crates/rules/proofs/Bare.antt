@@ -1,11 +1,12 @@
 -- The register's lines are those of a table of held lines without their answers; so what is done to the one is done to the other,
 -- and what a question finds in the one it finds in the other.
+use Rattle.std.specs.List.{list_any}
 use Rattle.std.proofs.Common.{◌≡◌, ℕ, Bool, false, List, [], ◌∷◌, map, Some, None, filter, sym, ◌∙◌}
 use Rattle.std.specs.List.{AllByRecursion as All}
 use Rattle.std.proofs.lemmas.Bool.{or_parts, cond_both}
 use Rattle.std.proofs.lemmas.Simd.{map-map}
 use Rattle.rules.specs.declared.lines.Line.{Line}
-use Rattle.rules.specs.Calls.{holder_after, pass_on, some_line, earliest_holder}
+use Rattle.rules.specs.Calls.{holder_after, pass_on, earliest_holder}
 use Rattle.rules.specs.Books.{Copied}
 use Rattle.rules.proofs.Pairs.{filter_map_swap}
 use Rattle.rules.proofs.Holdings.{Held, renamed}
@@ -20,9 +21,9 @@ module _ {P : Type 0} (test : Line P → Bool) where
   none_earliest (l ∷ ls) e =
       cond_both (test l) (Some l.holder) (earliest_holder test ls) (λ o. o ≡ None → All (λ m. test m ≡ false) (l ∷ ls)) (λ t h. cc) (λ f h. (f, none_earliest ls h)) e
 
-  pub none_some : (ls : List (Line P)) → some_line test ls ≡ false → All (λ l. test l ≡ false) ls
+  pub none_some : (ls : List (Line P)) → list_any test ls ≡ false → All (λ l. test l ≡ false) ls
   none_some [] e = tt
-  none_some (l ∷ ls) e = let es = or_parts (test l) (some_line test ls) e in (es.0, none_some ls es.1)
+  none_some (l ∷ ls) e = let es = or_parts (test l) (list_any test ls) e in (es.0, none_some ls es.1)
 
 -- ---- lines without their answers
 

@@ -1,10 +1,11 @@
 -- Lines found by a test: some line, and the earliest one.
+use Rattle.std.specs.List.{list_any}
 use Rattle.std.proofs.Common.{◌≡◌, ℕ, Bool, true, cond, List, [], ◌∷◌, ◌++◌, Some, Decides, refl, ap, ◌∙◌, inl, inr}
 use Rattle.std.specs.List.{AllByRecursion as All}
 use Rattle.std.proofs.lemmas.Bool.{cond_both, both_ways, or_cases, or_left, or_right, false_from_ne_true}
 use Rattle.std.proofs.lemmas.Option.{same_Some}
 use Rattle.rules.specs.declared.lines.Line.{Line}
-use Rattle.rules.specs.Calls.{some_line, earliest_holder}
+use Rattle.rules.specs.Calls.{earliest_holder}
 use Rattle.rules.specs.TurnedAway.{Among, Earliest}
 
 module _ {P : Type 0} where
@@ -16,19 +17,19 @@ module _ {P : Type 0} where
 
   -- a line that passes a test is one of which the test says so, and the earliest is the earliest
   module _ (test : Line P → Bool) (Q : Line P → Type 0) (decides : (l : Line P) → Decides (test l) (Q l)) where
-    some_among : (ls : List (Line P)) → some_line test ls ≡ true → (l : Line P) × Among l ls × Q l
+    some_among : (ls : List (Line P)) → list_any test ls ≡ true → (l : Line P) × Among l ls × Q l
     some_among [] h = cc
-    some_among (l ∷ ls) h = elim (or_cases (test l) (some_line test ls) h) [
+    some_among (l ∷ ls) h = elim (or_cases (test l) (list_any test ls) h) [
       | inl t ↦ (l, among_first l ls, (decides l).0 t)
       | inr u ↦ (let found = some_among ls u in (found.0, among_later found.0 l ls found.1, found.2))
     ]
 
-    some_at : (before after : List (Line P)) (l : Line P) → Q l → some_line test (before ++ (l ∷ after)) ≡ true
-    some_at [] after l q = or_left (test l) (some_line test after) ((decides l).1 q)
-    some_at (x ∷ before) after l q = or_right (test x) (some_line test (before ++ (l ∷ after))) (some_at before after l q)
+    some_at : (before after : List (Line P)) (l : Line P) → Q l → list_any test (before ++ (l ∷ after)) ≡ true
+    some_at [] after l q = or_left (test l) (list_any test after) ((decides l).1 q)
+    some_at (x ∷ before) after l q = or_right (test x) (list_any test (before ++ (l ∷ after))) (some_at before after l q)
 
-    pub some_is : (ls : List (Line P)) → Decides (some_line test ls) ((l : Line P) × Among l ls × Q l)
-    some_is ls = (some_among ls, λ found. ap (some_line test) found.1.is_there ∙ some_at found.1.before found.1.after found.0 found.2)
+    pub some_is : (ls : List (Line P)) → Decides (list_any test ls) ((l : Line P) × Among l ls × Q l)
+    some_is ls = (some_among ls, λ found. ap (list_any test) found.1.is_there ∙ some_at found.1.before found.1.after found.0 found.2)
 
     pub earliest_is : (ls : List (Line P)) (h : ℕ) → earliest_holder test ls ≡ Some h → Earliest Q ls h
     earliest_is [] h e = cc

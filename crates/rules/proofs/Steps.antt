@@ -1,4 +1,5 @@
 -- Every call upholds what ties the register to the book.
+use Rattle.std.specs.List.{list_any}
 use Rattle.std.proofs.Common.{◌≡◌, ℕ, ◌+◌, ◌<◌, Bool, true, false, cond, not, ◌&&◌, eqb, ◌⊎◌, List, [], ◌∷◌, ◌++◌, map, None, fold, filter, sym, refl, ap, ◌∙◌, subst, inl, inr, arith}
 use Rattle.std.specs.List.{AllByRecursion as All}
 use Rattle.std.proofs.lemmas.Bool.{cond_both, false_from_ne_true, eqb-true, eqb-false, or_cases, and_cases, not-false, both_ways}
@@ -14,7 +15,7 @@ use Rattle.rules.specs.declared.refusals.Refusal.{Refusal}
 use Rattle.rules.specs.Entries.{stands, childless, parent_of, elders, is_among, is_own_or_elder, without, outside}
 use Rattle.rules.specs.Cells.{value_at, of_value}
 use Rattle.rules.specs.States.{State}
-use Rattle.rules.specs.Calls.{Outcome, holder_after, seen, commit, held_by, not_held_by, pass_on, earliest_holder, some_line, stops_posting, stops_publishing, questions, further_questions, turned_away, committed_state, passed_state, kept_state, taken, step}
+use Rattle.rules.specs.Calls.{Outcome, holder_after, seen, commit, held_by, not_held_by, pass_on, earliest_holder, stops_posting, stops_publishing, questions, further_questions, turned_away, committed_state, passed_state, kept_state, taken, step}
 use Rattle.rules.specs.Books.{Copied, Copy, then_line, then_block, lines_of, Book, rows_of, copy_of, with_begun, with_line, with_fair_block, with_block, with_abandoned, write}
 use Rattle.rules.specs.FairCopy.{Event, post_line, GetsItsAnswer}
 use Rattle.rules.proofs.Holdings.{Held, held, renamed}
@@ -142,7 +143,7 @@ module _ {V P O : Type 0} (R : Rules V P O) (law : CrossingLaw R) (first : List 
       (λ g h. (
       let elders_line = is_among (elders s.rows e) g.holder in
       let clashes : Line P → Bool = λ l. eqb l.holder e && (eqb l.cell g.item.cell && not (R.crosses l.posting g.item.posting)) in
-      elim (and_cases elders_line (some_line clashes s.lines) h) [
+      elim (and_cases elders_line (list_any clashes s.lines) h) [
         | inl d ↦ all_of (λ m k a. absurd (both_ways _ d k)) up.table
         | inr o ↦ All-weaker _ _
             (λ m t k a. elim (and_cases (eqb m.holder e) (eqb m.item.cell g.item.cell && not (R.crosses m.item.posting g.item.posting)) t) [

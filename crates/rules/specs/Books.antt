@@ -1,5 +1,5 @@
 -- The book, which writes the fair copy. It is fed the calls with their answers, and nothing from the tables. Assumes nothing.
-use Rattle.std.specs.Prelude.{ℕ, Bool, true, false, cond, not, List, [], ◌∷◌, ◌++◌, map, Some, None, Ok, Err, filter, Option, ◌==◌}
+use Rattle.std.specs.Prelude.{ℕ, Bool, true, false, if◌then◌else◌, not, List, [], ◌∷◌, ◌++◌, map, Some, None, Ok, Err, filter, Option, ◌==◌}
 use Rattle.rules.specs.declared.rows.Row.{Row}
 use Rattle.rules.specs.declared.calls.Call.{Call}
 use Rattle.rules.specs.declared.calls.Call.TheVariants.{Begin, Post, Keep, Publish, Abandon, Value}
@@ -47,11 +47,11 @@ module _ {P O : Type 0} where
 
   abbrev pub copy_of : List (Page P O) → ℕ → Copy P O
   copy_of [] e = empty
-  copy_of (g ∷ pages) e = cond (g.entry == e) g.copy (copy_of pages e)
+  copy_of (g ∷ pages) e = if g.entry == e then g.copy else copy_of pages e
 
   -- an entry's copy is written on
   abbrev pub write_on : ℕ → (Copy P O → Copy P O) → List (Page P O) → List (Page P O)
-  write_on e more pages = map (λ g. record { entry = g.entry; parent = g.parent; copy = cond (g.entry == e) (more g.copy) g.copy }) pages
+  write_on e more pages = map (λ g. record { entry = g.entry; parent = g.parent; copy = if g.entry == e then more g.copy else g.copy }) pages
 
   -- its page is taken out
   abbrev pub take_out : ℕ → List (Page P O) → List (Page P O)
@@ -76,7 +76,7 @@ module _ {P O : Type 0} where
   with_block b e q = record { fair = b.fair; pages = write_on q (λ copy. then_block copy e (copy_of b.pages e)) (take_out e b.pages) }
 
   abbrev pub with_kept : Book P O → ℕ → Book P O
-  with_kept b e = cond (parent_of (rows_of b.pages) e == 0) (with_fair_block b e) (with_block b e (parent_of (rows_of b.pages) e))
+  with_kept b e = if parent_of (rows_of b.pages) e == 0 then with_fair_block b e else with_block b e (parent_of (rows_of b.pages) e)
 
   abbrev pub with_abandoned : Book P O → ℕ → Book P O
   with_abandoned b e = record { fair = b.fair; pages = take_out_all e b.pages }
@@ -113,7 +113,7 @@ module _ {V P O : Type 0} where
   abbrev pub write : Book P O → Call P → Answer V O → Book P O
   write b (Begin q) answer = if_any (begun_number answer) (λ n. with_begun b n q) b
   write b (Post e c p) answer = if_any (posting_answer answer) (λ a. with_line b e (record { cell = c; posting = p; answer = a })) b
-  write b (Keep e) answer = cond (is_done answer) (with_kept b e) b
-  write b (Publish e) answer = cond (is_done answer) (with_fair_block b e) b
-  write b (Abandon e) answer = cond (is_done answer) (with_abandoned b e) b
+  write b (Keep e) answer = if is_done answer then with_kept b e else b
+  write b (Publish e) answer = if is_done answer then with_fair_block b e else b
+  write b (Abandon e) answer = if is_done answer then with_abandoned b e else b
   write b (Value c) answer = b

@@ -1,5 +1,5 @@
 -- The rules of the calls: the questions to each in their order, and what it does and answers if none turns it away. Assumes nothing.
-use Rattle.std.specs.Prelude.{ℕ, ◌+◌, Bool, true, false, cond, not, ◌&&◌, ◌||◌, List, [], ◌∷◌, ◌++◌, map, length, Some, None, Ok, Err, fold, filter, Option, Result, ◌==◌, nat_lt}
+use Rattle.std.specs.Prelude.{ℕ, ◌+◌, Bool, true, false, if◌then◌else◌, not, ◌&&◌, ◌||◌, List, [], ◌∷◌, ◌++◌, map, length, Some, None, Ok, Err, fold, filter, Option, Result, ◌==◌, nat_lt}
 use Rattle.std.specs.List.{list_any}
 use Rattle.cells.specs.Kinds.{Rules}
 use Rattle.cells.specs.Sequences.{after_all}
@@ -28,7 +28,7 @@ pub record Outcome (V P O : Type 0) : Type 0 where
 
 -- who holds what h held, once the lines of e have passed to q
 abbrev pub holder_after : ℕ → ℕ → ℕ → ℕ
-holder_after e q h = cond (h == e) q h
+holder_after e q h = if h == e then q else h
 
 module _ {P : Type 0} where
   abbrev pub held_by : ℕ → List (Line P) → List (Line P)
@@ -41,13 +41,10 @@ module _ {P : Type 0} where
   abbrev pub pass_on : ℕ → ℕ → List (Line P) → List (Line P)
   pass_on e q ls = map (λ l. record { holder = holder_after e q l.holder; cell = l.cell; posting = l.posting }) ls
 
-  abbrev pub some_line : (Line P → Bool) → List (Line P) → Bool
-  some_line test ls = list_any test ls
-
   -- the holder of the earliest posted line that passes a test
   abbrev pub earliest_holder : (Line P → Bool) → List (Line P) → Option ℕ
   earliest_holder test [] = None
-  earliest_holder test (l ∷ ls) = cond (test l) (Some l.holder) (earliest_holder test ls)
+  earliest_holder test (l ∷ ls) = if test l then Some l.holder else earliest_holder test ls
 
 module _ {V P O : Type 0} (R : Rules V P O) where
   -- what a value becomes by the lines on a cell that the entry or an elder holds, in posting order
@@ -72,7 +69,7 @@ module _ {V P O : Type 0} (R : Rules V P O) where
 
   -- does e hold a line on the cell of m that does not cross m?
   abbrev pub holds_uncrossed : List (Line P) → ℕ → Line P → Bool
-  holds_uncrossed ls e m = some_line (λ l. (l.holder == e) && (l.cell == m.cell && not (R.crosses l.posting m.posting))) ls
+  holds_uncrossed ls e m = list_any (λ l. (l.holder == e) && (l.cell == m.cell && not (R.crosses l.posting m.posting))) ls
 
   -- question 7 of one line: does an elder of e hold it, and some line of e on the same cell not cross it?
   abbrev pub stops_publishing_in : List Row → List (Line P) → ℕ → Line P → Bool
@@ -181,7 +178,7 @@ module _ {V P O : Type 0} (R : Rules V P O) where
   committed_state s e = holding s (commit R s.values (held_by e s.lines)) (without e s.rows) (not_held_by e s.lines)
 
   abbrev pub kept_state : State V P → ℕ → State V P
-  kept_state s e = cond (parent_of s.rows e == 0) (committed_state s e) (passed_state s e (parent_of s.rows e))
+  kept_state s e = if parent_of s.rows e == 0 then committed_state s e else passed_state s e (parent_of s.rows e)
 
   -- a call that no question turns away
   abbrev pub taken : State V P → Call P → Outcome V P O

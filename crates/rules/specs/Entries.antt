@@ -1,5 +1,5 @@
 -- The standing entries: which one stands under which, and which is an elder of which. Assumes nothing.
-use Rattle.std.specs.Prelude.{◌≡◌, ℕ, zero, suc, Bool, false, cond, not, ◌||◌, List, [], ◌∷◌, filter, ◌==◌, ◌≢◌}
+use Rattle.std.specs.Prelude.{◌≡◌, ℕ, zero, suc, Bool, false, if◌then◌else◌, not, ◌||◌, List, [], ◌∷◌, filter, ◌==◌, ◌≢◌}
 use Rattle.std.specs.List.{list_all}
 use Rattle.rules.specs.declared.rows.Row.{Row}
 
@@ -15,7 +15,7 @@ childless rows e = list_all (λ r. not (r.parent == e)) rows
 -- its parent, which is 0 (the register itself) for a top entry; also 0 where it does not stand
 abbrev pub parent_of : List Row → ℕ → ℕ
 parent_of [] e = 0
-parent_of (r ∷ rows) e = cond (r.entry == e) r.parent (parent_of rows e)
+parent_of (r ∷ rows) e = if r.entry == e then r.parent else parent_of rows e
 
 -- x is an elder of e: an elder of an entry is its parent, where that is not 0, or an elder of its parent
 pub data Elder (rows : List Row) (x : ℕ) : ℕ → Type 0 where
@@ -25,7 +25,7 @@ pub data Elder (rows : List Row) (x : ℕ) : ℕ → Type 0 where
 -- the same as a list, the parent first and the eldest last, as far as n steps up from e lead
 abbrev pub up_from : ℕ → List Row → ℕ → List ℕ
 up_from zero rows e = []
-up_from (suc n) rows e = cond (parent_of rows e == 0) [] (parent_of rows e ∷ up_from n rows (parent_of rows e))
+up_from (suc n) rows e = if parent_of rows e == 0 then [] else parent_of rows e ∷ up_from n rows (parent_of rows e)
 
 -- a parent's number is below its child's, so that e steps lead up from e to its eldest
 abbrev pub elders : List Row → ℕ → List ℕ

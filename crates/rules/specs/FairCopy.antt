@@ -1,5 +1,5 @@
 -- The fair-copy law: which answers and values the fair copy of a run of calls gives. Assumes nothing.
-use Rattle.std.specs.Prelude.{◌≡◌, ℕ, Bool, true, cond, ◌&&◌, List, [], ◌∷◌, ◌++◌, Some, Decides, fold, ◌==◌, ◌≢◌}
+use Rattle.std.specs.Prelude.{◌≡◌, ℕ, Bool, true, if◌then◌else◌, ◌&&◌, List, [], ◌∷◌, ◌++◌, Some, IsTrue, ◌↔◌, fold, ◌==◌, ◌≢◌}
 use Rattle.std.specs.List.{AllByRecursion}
 use Rattle.cells.specs.Kinds.{Rules}
 use Rattle.rules.specs.declared.calls.Call.{Call}
@@ -76,7 +76,7 @@ module _ {P O : Type 0} where
   AllDiffer (block ∷ blocks) = AllByRecursion (λ other. block.entry ≢ other.entry) blocks × AllDiffer blocks
 
   abbrev pub block_if : Bool → Book P O → ℕ → List (Block P O)
-  block_if added b e = cond added (record { entry = e; copy = copy_of b.pages e } ∷ []) []
+  block_if added b e = if added then record { entry = e; copy = copy_of b.pages e } ∷ [] else []
 
 module _ {V P O : Type 0} where
   -- the block that a call adds to the fair copy, by keeping a top entry or publishing any entry: the entry's copy as the call finds it
@@ -112,7 +112,7 @@ pub record FairCopyHolds {V P O : Type 0} (R : Rules V P O) (first : List V) (s 
   -- the book's standing entries and their parents are the register's
   pub same_standing : rows_of b.pages ≡ s.rows
   -- the list `elders` names exactly those that are elders by the relation `Elder`
-  pub elders_are : (e x : ℕ) → Decides (is_among (elders s.rows e) x) (Elder s.rows x e)
+  pub elders_are : (e x : ℕ) → IsTrue (is_among (elders s.rows e) x) ↔ Elder s.rows x e
   -- the fair copy is one unbroken block for each entry that was kept at the top or published, in that order, and nothing else
   pub one_block_each : b.fair ≡ copy_of_blocks blocks
   -- no entry has two blocks

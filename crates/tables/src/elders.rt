@@ -1,5 +1,5 @@
 // Look-ups in the standing rows: who stands, under whom, and who is an elder of whom.
-ghost use Rattle.std.specs.Prelude.{◌≡◌, true, ◌||◌, Decides, MatchOption, ◌==◌};
+ghost use Rattle.std.specs.Prelude.{◌≡◌, true, ◌||◌, IsTrue, ◌↔◌, MatchOption, ◌==◌};
 ghost use Rattle.rules.specs.Entries.{Elder, childless, elders, is_among, is_own_or_elder, parent_of, stands};
 ghost use Rattle.tables.specs.Order.{are_in_order};
 ghost use Rattle.tables.specs.Places.{HasItsRow, HasNoRow};
@@ -63,7 +63,7 @@ impl<'a> Entries<'a> {
     /// Is `elder` an elder of the entry: its parent, where that is not 0, or an elder of its parent?
     pub fn is_elder(&self, elder: u16, entry: u16) -> bool
         ensures listed { result ≡ is_among (elders self.now.rows.now entry) elder }
-        ensures related { Decides result (Elder self.now.rows.now elder entry) }
+        ensures related { IsTrue result ↔ Elder self.now.rows.now elder entry }
     {
         // An elder was begun before: most lines of other entries are told by this alone.
         if entry <= elder {
