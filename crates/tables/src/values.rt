@@ -44,7 +44,7 @@ impl<'a, V: Copy> Values<'a, V> {
     pub fn are_lawful<K: Kind<Value = V>>(&self, kind: &K) -> bool
         ensures { result ≡ all_lawful (K.rules kind.now) self.now.values }
     {
-        are_lawful(kind, self.cells)
+        self.cells.iter().all(|value| kind.is_lawful_value(*value))
     }
 
     /// Stores the value after the posting, where there is such a cell.
@@ -66,10 +66,4 @@ impl<'a, V: Copy> Values<'a, V> {
             }
         }
     }
-}
-
-fn are_lawful<K: Kind>(kind: &K, values: &[K::Value]) -> bool
-    ensures { result ≡ all_lawful (K.rules kind.now) values.now }
-{
-    values.iter().all(|value| kind.is_lawful_value(*value))
 }
