@@ -5,6 +5,7 @@ ghost use Rattle.std.specs.Prelude.{Some};
 use std::fmt;
 
 /// The value that a look found, or only that the posting is done.
+// No `Option`: `Some(Answer::Done)`, which says that a posting was taken, would read `Some(None)`.
 #[derive(Clone, Copy, PartialEq, Eq, Debug)]
 pub enum Answer<V> {
     Seen(V),

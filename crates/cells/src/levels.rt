@@ -8,6 +8,8 @@ use crate::answers::Answer;
 use crate::kinds::Kind;
 use std::fmt;
 
+/// What can be posted on a level.
+// A type of each kind, alike or not: `LevelPosting::Set(250)` would read `Posting::Change(Set(250))`.
 #[derive(Clone, Copy, PartialEq, Eq, Debug, Default)]
 pub enum LevelPosting {
     #[default]
@@ -15,6 +17,7 @@ pub enum LevelPosting {
     Set(i32),
 }
 
+// Beside the word nothing is left that a common function could write.
 impl fmt::Display for LevelPosting {
     ghost output = { λ posting. Some (level_posting_text posting) };
 
@@ -30,6 +33,7 @@ impl fmt::Display for LevelPosting {
 #[derive(Clone, Copy, PartialEq, Eq, Debug)]
 pub struct Level;
 
+// Each kind has all of its row of the rules in one place, also where another's row is the same.
 impl Kind for Level {
     type Value = i32;
 

@@ -8,6 +8,8 @@ use crate::answers::Answer;
 use crate::kinds::Kind;
 use std::fmt;
 
+/// What can be posted on a mark.
+// A type of each kind, alike or not: `MarkPosting::Raise(312)` would read `Posting::Change(Raise(312))`.
 #[derive(Clone, Copy, PartialEq, Eq, Debug, Default)]
 pub enum MarkPosting {
     #[default]
@@ -15,6 +17,7 @@ pub enum MarkPosting {
     Raise(i32),
 }
 
+// Beside the word nothing is left that a common function could write.
 impl fmt::Display for MarkPosting {
     ghost output = { λ posting. Some (mark_posting_text posting) };
 
@@ -30,6 +33,7 @@ impl fmt::Display for MarkPosting {
 #[derive(Clone, Copy, PartialEq, Eq, Debug)]
 pub struct Mark;
 
+// Each kind has all of its row of the rules in one place, also where another's row is the same.
 impl Kind for Mark {
     type Value = i32;
 

@@ -11,7 +11,9 @@ use std::fmt;
 /// The number of litres at which a total starts again from 0.
 const TURNOVER: i32 = 1_000_000_000;
 
-/// An addition may name any number that a script can write; whether it is lawful is asked of it.
+/// What can be posted on a total. An addition may name any number that a script can write; whether it
+/// is lawful is asked of it.
+// A type of each kind, alike or not: `TotalPosting::Add(15)` would read `Posting::Change(Add(15))`.
 #[derive(Clone, Copy, PartialEq, Eq, Debug, Default)]
 pub enum TotalPosting {
     #[default]
@@ -19,6 +21,7 @@ pub enum TotalPosting {
     Add(i32),
 }
 
+// Beside the word nothing is left that a common function could write.
 impl fmt::Display for TotalPosting {
     ghost output = { λ posting. Some (total_posting_text posting) };
 
@@ -34,6 +37,7 @@ impl fmt::Display for TotalPosting {
 #[derive(Clone, Copy, PartialEq, Eq, Debug)]
 pub struct Total;
 
+// Each kind has all of its row of the rules in one place, also where another's row is the same.
 impl Kind for Total {
     type Value = i32;
 

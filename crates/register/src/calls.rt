@@ -60,11 +60,9 @@ impl<'a, V: Copy, P: Copy> Register<'a, V, P> {
         ensures tables { SameTables self.new self.old }
     {
         self.stands_alone(entry)?;
-        let parent = elders::parent_of(self.rows.as_slice(), entry);
-        if parent == 0 {
-            self.commit(kind, entry);
-        } else {
-            self.pass_on(entry, parent);
+        match elders::parent_of(self.rows.as_slice(), entry) {
+            Some(parent) => self.pass_on(entry, parent),
+            None => self.commit(kind, entry),
         }
         Ok(())
     }
@@ -122,6 +120,7 @@ impl<'a, V: Copy, P: Copy> Register<'a, V, P> {
         ensures promised { Promised (K.rules kind.now) (view self.old) call result (view self.new) }
         ensures tables { SameTables self.new self.old }
     {
+        // No `map(|()| Reply::Done)`: the checker does not cover a closure that makes a reply.
         match call {
             Call::Begin { parent } => Ok(Reply::Entry(self.begin(kind, parent)?)),
             Call::Post {

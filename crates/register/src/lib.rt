@@ -22,6 +22,7 @@ pub struct Register<'a, V, P> {
     /// How many begins have been taken; the last of them got this number.
     begun: u16,
     /// Were the tables within their sizes at set-up, and all first values lawful?
+    // A flag and no `Option` of the rest: an unsound register keeps its tables, and promises speak of them.
     sound: bool,
     ghost in_order: { are_in_order rows.standing ≡ true },
     ghost numbered: { numbered_to begun rows.standing ≡ true },

@@ -7,6 +7,7 @@ use std::fmt;
 #[derive(Clone, Copy, PartialEq, Eq, Debug)]
 pub enum Call<P> {
     /// Begin a new entry under the parent; under 0 it is a top entry.
+    // 0 and no `Option`: it is the number that a script names.
     Begin { parent: u16 },
     /// Make a posting on a cell, inside an entry.
     Post { entry: u16, cell: usize, posting: P },

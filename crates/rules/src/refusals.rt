@@ -33,6 +33,7 @@ pub enum Refusal {
 
 impl Refusal {
     /// The number of the question.
+    // The rules number the questions, and answer lines write the number.
     pub fn number(self) -> u8
         ensures { result ≡ number_of self }
     {
@@ -51,6 +52,7 @@ impl Refusal {
     }
 
     /// The holder that the refusal names; 0 at all questions but 6 and 7.
+    // The rules and answer lines have 0 for nobody, where an `Option` would have `None`.
     pub fn holder(self) -> u16
         ensures { result ≡ holder_of self }
     {

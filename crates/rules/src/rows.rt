@@ -6,5 +6,6 @@ pub struct Row {
     /// From 1 to 65,535, in the order in which entries are begun; no number returns.
     pub entry: u16,
     /// 0 is the register itself: the entry is then a top entry.
+    // 0 and no `Option`, since scripts and the rules name a parent so, and the host hands rows over.
     pub parent: u16,
 }

@@ -1,10 +1,10 @@
 -- What the place of an entry's row says of the look-ups in rows.
-use Rattle.std.proofs.Common.{◌≡◌, ℕ, zero, suc, ◌<◌, true, false, List, [], ◌∷◌, length, get_or, is_some, Some, None, Option, sym, refl, ◌∙◌, arith, MatchOption}
-use Rattle.std.proofs.lemmas.Bool.{or_from, ne_eqb}
+use Rattle.std.proofs.Common.{inl, inr, ◌≡◌, ℕ, zero, suc, ◌<◌, true, false, List, [], ◌∷◌, length, get_or, is_some, Some, None, Option, sym, refl, ◌∙◌, arith, MatchOption}
+use Rattle.std.proofs.lemmas.Bool.{cases_eq, or_from, ne_eqb}
 use Rattle.rules.specs.declared.rows.Row.{Row}
 use Rattle.rules.specs.Entries.{stands, parent_of}
 use Rattle.rules.proofs.Kinship.{stands_own, stands_more, parent_own, parent_other}
-use Rattle.tables.specs.Places.{no_row, NoneBefore, HasItsRow, HasNoRow}
+use Rattle.tables.specs.Places.{no_row, NoneBefore, HasItsRow, HasNoRow, unless_register}
 
 -- past the first row
 further : (r : Row) (rows : List Row) (e n : ℕ) → NoneBefore (r ∷ rows) e (suc n) → NoneBefore rows e n
@@ -32,3 +32,16 @@ parent_nowhere (r ∷ rows) e none = parent_nowhere rows e (further r rows e (le
 pub placed_stands : (rows : List Row) (e : ℕ) (o : Option ℕ) → MatchOption o (HasNoRow rows e) (HasItsRow rows e) → is_some o ≡ stands rows e
 placed_stands rows e None none = sym (stands_nowhere rows e none)
 placed_stands rows e (Some n) its = sym (stands_at rows e n its.inside its.its_own)
+
+-- a parent that is told of is an entry and the row's own; where none is told of, the row has 0
+pub told_parent : (n q : ℕ) → Some q ≡ unless_register n → (q ≡ n) × (q ≡ 0 → ⊥)
+told_parent n q h = elim (cases_eq n 0) [
+  | inl z ↦ (let no : ◌≡◌ {A = ℕ} 0 1 = cc (h, z) in absurd (omega arith))
+  | inr d ↦ (let is : q ≡ n = cc (h, ne_eqb n 0 d) in (is, λ z. d (sym is ∙ z)))
+]
+
+pub untold_parent : (n : ℕ) → None ≡ unless_register n → n ≡ 0
+untold_parent n h = elim (cases_eq n 0) [
+  | inl z ↦ z
+  | inr d ↦ (let no : ◌≡◌ {A = ℕ} 0 1 = cc (h, ne_eqb n 0 d) in absurd (omega arith))
+]

@@ -1,5 +1,5 @@
 pub mod InOrder
-mod Finding
+pub mod Finding
 mod Cells
 mod Searching
 mod Closing

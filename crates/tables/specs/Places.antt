@@ -1,5 +1,5 @@
 -- Where an entry's row stands. Assumes nothing.
-use Rattle.std.specs.Prelude.{◌≡◌, ℕ, ◌<◌, List, length, ◌≢◌, slice_index_or}
+use Rattle.std.specs.Prelude.{if◌then◌else◌, ◌==◌, Option, Some, None, ◌≡◌, ℕ, ◌<◌, List, length, ◌≢◌, slice_index_or}
 use Rattle.rules.specs.declared.rows.Row.{Row}
 
 -- a row that stands for none, where rows are read past their end
@@ -19,3 +19,7 @@ pub record HasItsRow (rows : List Row) (entry place : ℕ) : Type 0 where
 -- no row is of the entry
 abbrev pub HasNoRow : List Row → ℕ → Type 0
 HasNoRow rows entry = NoneBefore rows entry (length rows)
+
+-- an entry, where the number is not 0, the register's own
+abbrev pub unless_register : ℕ → Option ℕ
+unless_register n = if n == 0 then None else Some n

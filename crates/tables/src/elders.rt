@@ -2,7 +2,7 @@
 ghost use Rattle.std.specs.Prelude.{◌≡◌, true, ◌||◌, IsTrue, ◌↔◌, MatchOption, ◌==◌};
 ghost use Rattle.rules.specs.Entries.{Elder, childless, elders, is_among, is_own_or_elder, parent_of, stands};
 ghost use Rattle.tables.specs.Order.{are_in_order};
-ghost use Rattle.tables.specs.Places.{HasItsRow, HasNoRow};
+ghost use Rattle.tables.specs.Places.{HasItsRow, HasNoRow, unless_register};
 
 use rules::rows::Row;
 
@@ -34,14 +34,12 @@ pub fn is_childless(rows: &[Row], entry: u16) -> bool
     rows.iter().all(|row| row.parent != entry)
 }
 
-/// The parent of an entry; 0 for a top entry, and for one that does not stand.
-pub fn parent_of(rows: &[Row], entry: u16) -> u16
-    ensures { result ≡ parent_of rows.now entry }
+/// The entry that this one stands under; none for a top entry, and for one that does not stand.
+pub fn parent_of(rows: &[Row], entry: u16) -> Option<u16>
+    ensures { result ≡ unless_register (parent_of rows.now entry) }
 {
-    match place_of(rows, entry) {
-        Some(place) => rows[place].parent,
-        None => 0,
-    }
+    let parent = rows[place_of(rows, entry)?].parent;
+    if parent == 0 { None } else { Some(parent) }
 }
 
 /// The standing entries, each after its parent, as they were begun.
@@ -69,11 +67,10 @@ impl<'a> Entries<'a> {
         if entry <= elder {
             return false;
         }
-        let parent = parent_of(self.rows, entry);
-        if parent == 0 {
-            return false;
+        match parent_of(self.rows, entry) {
+            Some(parent) => parent == elder || self.is_elder(elder, parent),
+            None => false,
         }
-        parent == elder || self.is_elder(elder, parent)
     }
 
     /// Is `holder` the entry itself or one of its elders?

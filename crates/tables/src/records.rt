@@ -11,6 +11,7 @@ mod rows;
 
 /// The records that stand fill the first places, in the order in which they came; the places after
 /// them are free.
+// A slice and a count, where a `Vec` would do: the host hands the memory over, and there is no heap.
 #[derive(Drop)]
 pub struct Table<'a, T> {
     places: &'a mut [T],
@@ -113,6 +114,7 @@ fn close_up<T: Copy, F: Fn(&[T], &T) -> bool>(items: &mut [T], stays: F) -> usiz
     ensures bound { result ≤ length items.old }
     ensures size { length items.new ≡ length items.old }
 {
+    // By index: one cursor reads and the other writes, and a `for` over the items would lend them all.
     let mut kept = 0;
     for i in 0..items.len() {
         let item = items[i];

@@ -23,6 +23,7 @@ impl<'a, K: Kind> Search<'a, K> {
     pub fn meet(&self, wanted: &Line<K::Posting>, committed: K::Value) -> Result<K::Value, Refusal>
         ensures { result ≡ met (changed_by_own (K.rules self.now.kind.now) self.now.entries.rows.now wanted.now.holder wanted.now.cell committed self.now.lines.now) (earliest_holder (stops_posting_in (K.rules self.now.kind.now) self.now.entries.rows.now wanted.now.holder wanted.now.cell wanted.now.posting) self.now.lines.now) }
     {
+        // One pass, where a search and a fold would ask the elder test twice.
         let mut seen = committed;
         for (place, line) in self.lines.iter().enumerate() {
             if line.cell == wanted.cell {

@@ -10,6 +10,7 @@ pub const ANY_ROW: Row = Row {
     parent: 3,
 };
 
+// Two constants, since the value of one may not be a call yet.
 pub const ANY_LEVEL_LINE: Line<LevelPosting> = Line {
     holder: 7,
     cell: 0,
