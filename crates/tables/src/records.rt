@@ -71,7 +71,8 @@ impl<'a, T: Copy> Table<'a, T> {
 
     /// The records that stand, in the order in which they came.
     pub fn as_slice(&self) -> &[T]
-        ensures { result.now ≡ self.now.standing }
+        ensures standing { result.now ≡ self.now.standing }
+        ensures within { length self.now.standing ≤ self.now.room }
     {
         &self.places[0..self.filled]
     }
@@ -80,6 +81,7 @@ impl<'a, T: Copy> Table<'a, T> {
     pub fn is_full(&self) -> bool
         ensures full { result ≡ nat_le self.now.room (length self.now.standing) }
         ensures free { result ≡ false → length self.now.standing < self.now.room }
+        ensures within { length self.now.standing ≤ self.now.room }
     {
         self.places.len() <= self.filled
     }

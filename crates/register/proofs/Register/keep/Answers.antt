@@ -17,7 +17,7 @@ pub returns-in-Some-clause-promised : goal.returns-in-Some-clause-promised
 returns-in-Some-clause-promised g c =
     let e = c.args.entry in
     let s = view c.args.self.now in
-    let asked : c.parent_of.result ≡ unless_register (parent_of s.rows e) = c.parent_of.ensures ∙ ap (λ rows. unless_register (parent_of rows e)) c.as_slice.ensures in
+    let asked : c.parent_of.result ≡ unless_register (parent_of s.rows e) = c.parent_of.ensures ∙ ap (λ rows. unless_register (parent_of rows e)) c.as_slice.ensures.standing in
     let parent = told_parent (parent_of s.rows e) c.in-Some.parent (sym c.in-Some.is ∙ asked) in
     took (g.K.Kind.rules c.args.kind.now) (g.met.K.Kind.crossing c.args.kind.now) c.args.self.now (Keep e) c.in_ok-stands_alone.ensures _ _ refl
     (c.pass_on.ensures.state ∙ ap (passed_state s e) parent.0 ∙ sym (cond-false _ _ _ (ne_eqb _ _ (λ z. parent.1 (parent.0 ∙ z)))))
@@ -26,6 +26,6 @@ pub returns-in-None-clause-promised : goal.returns-in-None-clause-promised
 returns-in-None-clause-promised g c =
     let e = c.args.entry in
     let s = view c.args.self.now in
-    let asked : c.parent_of.result ≡ unless_register (parent_of s.rows e) = c.parent_of.ensures ∙ ap (λ rows. unless_register (parent_of rows e)) c.as_slice.ensures in
+    let asked : c.parent_of.result ≡ unless_register (parent_of s.rows e) = c.parent_of.ensures ∙ ap (λ rows. unless_register (parent_of rows e)) c.as_slice.ensures.standing in
     took (g.K.Kind.rules c.args.kind.now) (g.met.K.Kind.crossing c.args.kind.now) c.args.self.now (Keep e) c.in_ok-stands_alone.ensures _ _ refl
     (c.commit.ensures.state ∙ sym (cond-true _ _ _ (eq-eqb _ _ (untold_parent (parent_of s.rows e) (sym c.in-None.is ∙ asked)))))
