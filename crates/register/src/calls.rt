@@ -1,6 +1,7 @@
 // The calls on a register. Each promises `Promised`, which is the whole of it: the answer, every value,
 // row and line after the call, the question that turned it away, and the law of the fair copy over every
 // history with the call added.
+ghost use Rattle.std.specs.Prelude.{◌≡◌};
 ghost use Rattle.rules.specs.declared.calls.Call.TheVariants.{Abandon, Begin, Keep, Post, Publish};
 ghost use Rattle.rules.specs.declared.calls.Call.TheVariants as calls;
 ghost use Rattle.rules.specs.declared.calls.Reply.TheVariants.{Done, Entry, Posted};
@@ -120,7 +121,6 @@ impl<'a, V: Copy, P: Copy> Register<'a, V, P> {
         ensures promised { Promised (K.rules kind.now) (view self.old) call result (view self.new) }
         ensures tables { SameTables self.new self.old }
     {
-        // No `map(|()| Reply::Done)`: the checker does not cover a closure that makes a reply.
         match call {
             Call::Begin { parent } => Ok(Reply::Entry(self.begin(kind, parent)?)),
             Call::Post {
@@ -128,18 +128,9 @@ impl<'a, V: Copy, P: Copy> Register<'a, V, P> {
                 cell,
                 posting,
             } => Ok(Reply::Posted(self.post(kind, entry, cell, posting)?)),
-            Call::Keep { entry } => {
-                self.keep(kind, entry)?;
-                Ok(Reply::Done)
-            }
-            Call::Publish { entry } => {
-                self.publish(kind, entry)?;
-                Ok(Reply::Done)
-            }
-            Call::Abandon { entry } => {
-                self.abandon(kind, entry)?;
-                Ok(Reply::Done)
-            }
+            Call::Keep { entry } => done(self.keep(kind, entry)),
+            Call::Publish { entry } => done(self.publish(kind, entry)),
+            Call::Abandon { entry } => done(self.abandon(kind, entry)),
             Call::Value { cell } => Ok(Reply::Value(self.value(kind, cell)?)),
         }
     }
@@ -149,4 +140,12 @@ impl<'a, V: Copy, P: Copy> Register<'a, V, P> {
     pub fn fair_copy_law<K: Kind<Value = V, Posting = P>>(&self, kind: &K)
         ensures { FairCopyStands (K.rules kind.now) (view self.now) }
     {}
+}
+
+/// The reply to a call that ended an entry.
+fn done<V, O>(ended: Result<(), Refusal>) -> Result<Reply<V, O>, Refusal>
+    ensures { result ≡ answered (λ _. Done) ended }
+{
+    ended?;
+    Ok(Reply::Done)
 }

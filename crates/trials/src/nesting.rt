@@ -1,5 +1,5 @@
 // Entries nested 255 deep.
-use crate::old_records::{ANY_LEVEL_LINE, ANY_ROW};
+use crate::old_records::{ANY_ROW, any_line};
 use cells::answers::Answer;
 use cells::levels::{Level, LevelPosting};
 use register::Register;
@@ -9,7 +9,7 @@ use rules::refusals::Refusal;
 fn the_innermost_sees_the_outermost_and_its_lines_pass_all_the_way_up(rt: HostRuntime) {
     let mut values = [1, 2];
     let mut rows = [ANY_ROW; 256];
-    let mut lines = [ANY_LEVEL_LINE; 8];
+    let mut lines = [any_line(LevelPosting::Set(99)); 8];
     let mut register = Register::set_up(&Level, &mut values, &mut rows, &mut lines);
     assert_eq!(rt; register.begin(&Level, 0), Ok(1));
     assert_eq!(rt;
@@ -51,7 +51,7 @@ fn the_innermost_sees_the_outermost_and_its_lines_pass_all_the_way_up(rt: HostRu
 fn an_abandon_at_the_top_ends_all_inside(rt: HostRuntime) {
     let mut values = [1];
     let mut rows = [ANY_ROW; 256];
-    let mut lines = [ANY_LEVEL_LINE; 255];
+    let mut lines = [any_line(LevelPosting::Set(99)); 255];
     let mut register = Register::set_up(&Level, &mut values, &mut rows, &mut lines);
     // Entry 1 is a stranger; the nest is 2 to 256, and each of them posts.
     assert_eq!(rt; register.begin(&Level, 0), Ok(1));

@@ -1,6 +1,6 @@
 // Entries get the numbers 1 to 65,535, and then none.
-use crate::old_records::{ANY_LEVEL_LINE, ANY_ROW};
-use cells::levels::Level;
+use crate::old_records::{ANY_ROW, any_line};
+use cells::levels::{Level, LevelPosting};
 use register::Register;
 use rules::refusals::Refusal;
 
@@ -8,7 +8,7 @@ use rules::refusals::Refusal;
 fn the_numbers_run_out(rt: HostRuntime) {
     let mut values = [0];
     let mut rows = [ANY_ROW; 2];
-    let mut lines = [ANY_LEVEL_LINE; 1];
+    let mut lines = [any_line(LevelPosting::Set(99)); 1];
     let mut register = Register::set_up(&Level, &mut values, &mut rows, &mut lines);
     for number in 1..=65_534 {
         assert_eq!(rt; register.begin(&Level, 0), Ok(number));
@@ -25,7 +25,7 @@ fn the_numbers_run_out(rt: HostRuntime) {
 fn setting_up_again_starts_the_numbers_anew(rt: HostRuntime) {
     let mut values = [4];
     let mut rows = [ANY_ROW; 2];
-    let mut lines = [ANY_LEVEL_LINE; 1];
+    let mut lines = [any_line(LevelPosting::Set(99)); 1];
     let mut register = Register::set_up(&Level, &mut values, &mut rows, &mut lines);
     assert_eq!(rt; register.begin(&Level, 0), Ok(1));
     assert_eq!(rt; register.begin(&Level, 1), Ok(2));

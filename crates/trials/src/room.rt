@@ -1,5 +1,5 @@
 // Rows and lines run out, and those that have ended are used again.
-use crate::old_records::{ANY_LEVEL_LINE, ANY_ROW};
+use crate::old_records::{ANY_ROW, any_line};
 use cells::answers::Answer;
 use cells::levels::{Level, LevelPosting};
 use register::Register;
@@ -9,7 +9,7 @@ use rules::refusals::Refusal;
 fn a_row_is_used_again_and_a_number_is_not(rt: HostRuntime) {
     let mut values = [0];
     let mut rows = [ANY_ROW; 2];
-    let mut lines = [ANY_LEVEL_LINE; 4];
+    let mut lines = [any_line(LevelPosting::Set(99)); 4];
     let mut register = Register::set_up(&Level, &mut values, &mut rows, &mut lines);
     assert_eq!(rt; register.begin(&Level, 0), Ok(1));
     assert_eq!(rt; register.begin(&Level, 1), Ok(2));
@@ -27,7 +27,7 @@ fn a_row_is_used_again_and_a_number_is_not(rt: HostRuntime) {
 fn a_parent_that_does_not_stand_is_asked_about_before_rows(rt: HostRuntime) {
     let mut values = [0];
     let mut rows = [ANY_ROW; 1];
-    let mut lines = [ANY_LEVEL_LINE; 1];
+    let mut lines = [any_line(LevelPosting::Set(99)); 1];
     let mut register = Register::set_up(&Level, &mut values, &mut rows, &mut lines);
     assert_eq!(rt; register.begin(&Level, 7), Err(Refusal::NotStanding));
     assert_eq!(rt; register.begin(&Level, 0), Ok(1));
@@ -39,7 +39,7 @@ fn a_parent_that_does_not_stand_is_asked_about_before_rows(rt: HostRuntime) {
 fn lines_are_used_again(rt: HostRuntime) {
     let mut values = [10, 20];
     let mut rows = [ANY_ROW; 4];
-    let mut lines = [ANY_LEVEL_LINE; 2];
+    let mut lines = [any_line(LevelPosting::Set(99)); 2];
     let mut register = Register::set_up(&Level, &mut values, &mut rows, &mut lines);
     assert_eq!(rt; register.begin(&Level, 0), Ok(1));
     assert_eq!(rt;
@@ -74,7 +74,7 @@ fn lines_are_used_again(rt: HostRuntime) {
 fn a_line_in_the_way_is_asked_about_before_room(rt: HostRuntime) {
     let mut values = [0];
     let mut rows = [ANY_ROW; 4];
-    let mut lines = [ANY_LEVEL_LINE; 1];
+    let mut lines = [any_line(LevelPosting::Set(99)); 1];
     let mut register = Register::set_up(&Level, &mut values, &mut rows, &mut lines);
     assert_eq!(rt; register.begin(&Level, 0), Ok(1));
     assert_eq!(rt; register.begin(&Level, 0), Ok(2));
