@@ -64,6 +64,7 @@ impl Kind for Total {
         match posting {
             TotalPosting::Look => value,
             TotalPosting::Add(litres) => {
+                // No `try_from`: the remainder fits, and an `Err` that never comes would want an answer.
                 (i64::from(value) + i64::from(litres)).rem_euclid(i64::from(TURNOVER)) as i32
             }
         }
