@@ -19,9 +19,6 @@ stands_own r rows e s = or_left (eqb r.entry e) (stands rows e) (eq-eqb r.entry 
 pub stands_more : (r : Row) (rows : List Row) (e : ℕ) → stands rows e ≡ true → stands (r ∷ rows) e ≡ true
 stands_more r rows e s = or_right (eqb r.entry e) (stands rows e) s
 
-pub stands_cases : (r : Row) (rows : List Row) (e : ℕ) → stands (r ∷ rows) e ≡ true → (r.entry ≡ e) ⊎ (stands rows e ≡ true)
-stands_cases r rows e h = elim (or_cases (eqb r.entry e) (stands rows e) h) [ inl k ↦ inl (eqb-true r.entry e k) | inr k ↦ inr k ]
-
 pub parent_own : (r : Row) (rows : List Row) (e : ℕ) → r.entry ≡ e → parent_of (r ∷ rows) e ≡ r.parent
 parent_own r rows e h = cond-true _ _ _ (eq-eqb r.entry e h)
 

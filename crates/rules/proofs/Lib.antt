@@ -1,5 +1,5 @@
 mod Exchanges
-pub mod Bools
+mod Bools
 mod Each
 mod Pairs
 mod Holdings

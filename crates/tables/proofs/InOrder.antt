@@ -59,31 +59,40 @@ of_standing P rows each e s =
     let at = (Decides-by_or (λ r. eqb r.entry e) (λ r. r.entry ≡ e) (λ rs. stands rs e) (λ r. Decides-eqb r.entry e) refl (λ r rs. refl) rows).0 s in
     subst P (at.2 no_row) (each at.0 no_row at.1)
 
--- each row is the one that a look-up of its entry finds
-pub own_parent : (rows : List Row) → Rising rows → All (λ r. parent_of rows r.entry ≡ r.parent) rows
-own_parent rows rising i d l = sym (parent_at rows (get_or rows i d).entry i d l refl (λ k h is. (let m : (get_or rows k d).entry < (get_or rows i d).entry = rising k i d h l in omega arith)))
+module _ (rows : List Row) (rises : Rising rows) where
+  -- each row is the one that a look-up of its entry finds
+  pub own_parent : All (λ r. parent_of rows r.entry ≡ r.parent) rows
+  own_parent i d l = sym (parent_at rows (get_or rows i d).entry i d l refl (λ k h is. (let m : (get_or rows k d).entry < (get_or rows i d).entry = rises k i d h l in omega arith)))
+
+  grown_from_rows : All (λ r. 0 < r.entry) rows → All (λ r. Rooted rows r.entry r.parent) rows → Grown rows
+  grown_from_rows positive rooted =
+      let above_zero : (e : ℕ) → stands rows e ≡ true → 0 < e = of_standing (λ e. 0 < e) rows positive in
+      let cases : (e : ℕ) → stands rows e ≡ true → Rooted rows e (parent_of rows e) =
+      of_standing (λ e. Rooted rows e (parent_of rows e)) rows (λ i d l. subst (Rooted rows (get_or rows i d).entry) (sym (own_parent i d l)) (rooted i d l)) in
+      record {
+        zero_free = λ s. omega (arith, above_zero 0 s);
+        falls = λ e s. elim (cases e s) [ inl z ↦ omega (arith, above_zero e s) | inr k ↦ k.0 ];
+        rooted = λ e. elim (stands_or_top rows e) [ inl s ↦ elim (cases e s) [ inl z ↦ inl z | inr k ↦ inr k.1 ] | inr z ↦ inl z ];
+      }
+
+  module _ (g : Grown rows) where
+    each_stands : All (λ r. stands rows r.entry ≡ true) rows
+    each_stands i d l = stands_at rows (get_or rows i d).entry i d l refl
+
+    each_positive : All (λ r. 0 < r.entry) rows
+    each_positive i d l = elim (cases_eq (get_or rows i d).entry 0) [ inl z ↦ absurd (g.zero_free (ap (stands rows) (sym z) ∙ each_stands i d l)) | inr n ↦ omega arith ]
+
+    each_rooted : All (λ r. Rooted rows r.entry r.parent) rows
+    each_rooted i d l =
+        let e = (get_or rows i d).entry in
+        subst (Rooted rows e) (own_parent i d l) (elim (g.rooted e) [ inl z ↦ inl z | inr s ↦ inr (g.falls e (each_stands i d l), s) ])
 
 -- rows in order rise, and are as begins make them
 in_order_means : (rows : List Row) → Decides (are_in_order rows) (Rising rows × Grown rows)
 in_order_means rows =
     Decides-like _
-    (λ h.
-    let own = own_parent rows h.0.1 in
-    let of_row : (e : ℕ) → stands rows e ≡ true → (0 < e) × Rooted rows e (parent_of rows e) =
-    of_standing (λ e. (0 < e) × Rooted rows e (parent_of rows e)) rows (λ i d l. (h.0.0 i d l, subst (Rooted rows (get_or rows i d).entry) (sym (own i d l)) (h.1 i d l))) in (
-      h.0.1,
-      record {
-        zero_free = λ s. (let l = (of_row 0 s).0 in omega arith);
-        falls = λ e s. (let l = (of_row e s).0 in elim (of_row e s).1 [ inl z ↦ omega arith | inr k ↦ k.0 ]);
-        rooted = λ e. elim (stands_or_top rows e) [ inl s ↦ elim (of_row e s).1 [ inl z ↦ inl z | inr k ↦ inr k.1 ] | inr z ↦ inl z ];
-      },
-    ))
-    (λ h.
-    let here : All (λ r. stands rows r.entry ≡ true) rows = λ i d l. stands_at rows (get_or rows i d).entry i d l refl in (
-      (λ i d l. elim (cases_eq (get_or rows i d).entry 0) [ inl z ↦ absurd (h.1.zero_free (ap (stands rows) (sym z) ∙ here i d l)) | inr n ↦ omega arith ], h.0),
-      λ i d l. subst (Rooted rows (get_or rows i d).entry) (own_parent rows h.0 i d l)
-          (elim (h.1.rooted (get_or rows i d).entry) [ inl z ↦ inl z | inr s ↦ inr (h.1.falls (get_or rows i d).entry (here i d l), s) ]),
-    ))
+    (λ h. (h.0.1, grown_from_rows rows h.0.1 h.0.0 h.1))
+    (λ h. ((each_positive rows h.0 h.1, h.0), each_rooted rows h.0 h.1))
     (Decides-and (rising_from 0 rows) (placed_in rows rows) (rising_means 0 rows) (placed_means rows rows))
 
 -- ---- rows in order
