@@ -58,9 +58,7 @@ abbrev pub records : {T : Type 0} → List T → ℕ → GName → Records T
 records standing room slice = record { standing = standing; room = room; slice = slice }
 
 -- a table whose standing records have closed up, by what is left of them
-pub closed_up : {T : Type 0} (was : Records T) (slice : GName) (places : List T) (filled : ℕ) → records (take filled places) (length places) slice ≡ was → filled ≤ length places
-    → (left : List T → List T) (items : List T) (k : ℕ) → k ≤ length (take filled places) → length items ≡ length (take filled places) → take k items ≡ left (take filled places)
-    → records (take k (items ++ drop filled places)) (length (items ++ drop filled places)) slice ≡ records (left was.standing) was.room was.slice
-closed_up was slice places filled is fits left items k bound size stand =
+pub closed_up : {T : Type 0} {left : List T} {slice : GName} (places items : List T) (filled k : ℕ) → filled ≤ length places → k ≤ length (take filled places) → length items ≡ length (take filled places) → take k items ≡ left
+    → records (take k (items ++ drop filled places)) (length (items ++ drop filled places)) slice ≡ records left (length places) slice
+closed_up {slice = slice} places items filled k fits bound size stand =
     ap₂ (λ s n. records s n slice) (take-append-le k items (drop filled places) (omega arith) ∙ stand) (omega (arith, length-append items (drop filled places), length-drop filled places, length-take-le filled places fits))
-    ∙ ap (λ w. records (left w.standing) w.room w.slice) is
