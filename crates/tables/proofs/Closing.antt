@@ -1,5 +1,5 @@
 -- A loop that closes a list up in place, and one turn of it.
-use Rattle.std.proofs.Common.{◌++◌, cond, filter, ap, append-nil, append_assoc, ◌≡◌, ℕ, ◌+◌, ◌<◌, ◌≤◌, Bool, true, false, List, [], ◌∷◌, length, get_or, take, drop, set, sym, ap₂, ◌∙◌, subst, arith}
+use Rattle.std.proofs.Common.{◌++◌, filter, append-nil, append_assoc, ◌≡◌, ℕ, ◌+◌, ◌<◌, ◌≤◌, Bool, true, false, List, [], ◌∷◌, length, get_or, take, drop, set, sym, ap₂, ◌∙◌, arith}
 use Rattle.std.proofs.lemmas.List.{take_more_set, length-set, drop_more, drop-set-lt, length-append, length-drop, length-take-le, take-append-le}
 use Rattle.std.proofs.lemmas.Grind.{drop_more_same}
 use Rattle.std.specs.Borrow.{GName}
@@ -18,22 +18,19 @@ module _ {T : Type 0} (Answers : List T → T → Bool → Type 0) where
     further : drop (i + 1) items ≡ drop (i + 1) was
     further = drop_more_same items was i at.rest
 
-    inside : i < length items
-    inside = omega (arith, at.long)
-
     ahead : x ∷ drop (i + 1) was ≡ drop i was
-    ahead = ap₂ ◌∷◌ read (sym further) ∙ sym (drop_more items i x inside) ∙ at.rest
+    ahead = ap₂ ◌∷◌ read (sym further) ∙ sym (drop_more items i x (omega (arith, at.long))) ∙ at.rest
 
     -- an item that stays moves to the front
     pub stayed : Answers (take k items) x true → ClosingUp was (set items k x) (k + 1) (i + 1)
     stayed says =
         let in_front : k < i + 1 = omega (arith, at.front) in
-        let has_room : k < length items = omega (arith, at.front, inside) in
+        let has_room : k < length items = omega (arith, at.front, at.long) in
         record {
-          front = omega (arith, at.front);
+          front = omega arith;
           long = length-set items k x ∙ at.long;
           rest = drop-set-lt (i + 1) items k x in_front ∙ further;
-          goes_on = λ all left. at.goes_on all (subst (λ l. StayInTurn Answers (take k items) l all) ahead (true, says, subst (λ l. StayInTurn Answers l (drop (i + 1) was) all) (take_more_set items k x has_room) left));
+          goes_on = λ all left. at.goes_on all (rw (← ahead) (true, says, rw (← take_more_set items k x has_room) left));
         }
 
     -- any other is passed over
@@ -42,7 +39,7 @@ module _ {T : Type 0} (Answers : List T → T → Bool → Type 0) where
       front = omega (arith, at.front);
       long = at.long;
       rest = further;
-      goes_on = λ all left. at.goes_on all (subst (λ l. StayInTurn Answers (take k items) l all) ahead (false, says, left));
+      goes_on = λ all left. at.goes_on all (rw (← ahead) (false, says, left));
     }
 
 -- ---- what stays of the whole
@@ -51,8 +48,8 @@ module _ {T : Type 0} (Answers : List T → T → Bool → Type 0) where
 module _ {T : Type 0} (Answers : List T → T → Bool → Type 0) (test : T → Bool) (says : (kept : List T) (x : T) (b : Bool) → Answers kept x b → b ≡ test x) where
   pub sifted : (kept xs all : List T) → StayInTurn Answers kept xs all → all ≡ kept ++ filter test xs
   sifted kept [] all h = h ∙ sym (append-nil kept)
-  sifted kept (x ∷ xs) all (true, said, rest) = sifted (kept ++ x ∷ []) xs all rest ∙ append_assoc kept (x ∷ []) (filter test xs) ∙ ap (λ b. kept ++ cond b (x ∷ filter test xs) (filter test xs)) (says kept x true said)
-  sifted kept (x ∷ xs) all (false, said, rest) = sifted kept xs all rest ∙ ap (λ b. kept ++ cond b (x ∷ filter test xs) (filter test xs)) (says kept x false said)
+  sifted kept (x ∷ xs) all (true, said, rest) = rw (← says kept x true said) (sifted (kept ++ x ∷ []) xs all rest ∙ append_assoc kept (x ∷ []) (filter test xs))
+  sifted kept (x ∷ xs) all (false, said, rest) = rw (← says kept x false said) (sifted kept xs all rest)
 
 abbrev pub records : {T : Type 0} → List T → ℕ → GName → Records T
 records standing room slice = record { standing = standing; room = room; slice = slice }
