@@ -1,6 +1,7 @@
 -- A loop that closes a list up in place, and one turn of it.
-use Rattle.std.proofs.Common.{◌++◌, filter, append-nil, append_assoc, ◌≡◌, ℕ, ◌+◌, ◌<◌, ◌≤◌, Bool, true, false, List, [], ◌∷◌, length, get_or, take, drop, set, sym, ap₂, ◌∙◌, arith}
+use Rattle.std.proofs.Common.{refl, ap, ◌++◌, filter, append-nil, append_assoc, ◌≡◌, ℕ, ◌+◌, ◌<◌, ◌≤◌, Bool, true, false, List, [], ◌∷◌, length, get_or, take, drop, set, sym, ap₂, ◌∙◌, arith}
 use Rattle.std.proofs.lemmas.List.{take_more_set, length-set, drop_more, drop-set-lt, length-append, length-drop, length-take-le, take-append-le}
+use Rattle.std.proofs.lemmas.List.Elements.{filter-append}
 use Rattle.std.proofs.lemmas.Grind.{drop_more_same}
 use Rattle.std.specs.Borrow.{GName}
 use Rattle.tables.specs.Tables.{Records}
@@ -44,12 +45,16 @@ module _ {T : Type 0} (Answers : List T → T → Bool → Type 0) where
 
 -- ---- what stays of the whole
 
--- where what is answered of an item depends on the item alone, what stays is what passes the test
-module _ {T : Type 0} (Answers : List T → T → Bool → Type 0) (test : T → Bool) (says : (kept : List T) (x : T) (b : Bool) → Answers kept x b → b ≡ test x) where
-  pub sifted : (kept xs all : List T) → StayInTurn Answers kept xs all → all ≡ kept ++ filter test xs
-  sifted kept [] all h = h ∙ sym (append-nil kept)
-  sifted kept (x ∷ xs) all (true, said, rest) = rw (← says kept x true said) (sifted (kept ++ x ∷ []) xs all rest ∙ append_assoc kept (x ∷ []) (filter test xs))
-  sifted kept (x ∷ xs) all (false, said, rest) = rw (← says kept x false said) (sifted kept xs all rest)
+-- where an item stays just where it passes the test, after those before it that pass, what stays is what passes the test
+module _ {T : Type 0} (Answers : List T → T → Bool → Type 0) (test : T → Bool) (whole : List T)
+    (says : (front : List T) (x : T) (more : List T) (b : Bool) → whole ≡ front ++ x ∷ more → Answers (filter test front) x b → b ≡ test x) where
+  from_front : (front more all : List T) → whole ≡ front ++ more → StayInTurn Answers (filter test front) more all → all ≡ filter test whole
+  from_front front [] all is h = h ∙ ap (filter test) (sym (is ∙ append-nil front))
+  from_front front (x ∷ more) all is (true, said, left) = from_front (front ++ x ∷ []) more all (is ∙ sym (append_assoc front (x ∷ []) more)) (rw (filter-append, ← says front x more true is said) left)
+  from_front front (x ∷ more) all is (false, said, left) = from_front (front ++ x ∷ []) more all (is ∙ sym (append_assoc front (x ∷ []) more)) (rw (filter-append, ← says front x more false is said, append-nil) left)
+
+  pub sifted : (all : List T) → StayInTurn Answers [] whole all → all ≡ filter test whole
+  sifted all h = from_front [] whole all refl h
 
 abbrev pub records : {T : Type 0} → List T → ℕ → GName → Records T
 records standing room slice = record { standing = standing; room = room; slice = slice }

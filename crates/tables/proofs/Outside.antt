@@ -1,15 +1,15 @@
 -- What stays of rows in order where each is asked for its parent among those that stay before it.
-use Rattle.std.proofs.Common.{◌≡◌, ℕ, ◌<◌, Bool, true, false, cond, not, ◌&&◌, ◌||◌, eqb, List, [], ◌∷◌, ◌++◌, length, get_or, refl, sym, ap, ◌∙◌, subst, inl, inr, append-nil, append_assoc, arith}
+use Rattle.std.proofs.Common.{◌≡◌, ℕ, ◌<◌, Bool, true, not, ◌&&◌, ◌||◌, eqb, List, [], ◌∷◌, ◌++◌, length, get_or, sym, ap, ◌∙◌, subst, inl, inr, arith}
 use mathlib.Core.Bool.{and-true}
 use Rattle.std.proofs.lemmas.List.{length-append, get_or_append_left}
 use Rattle.std.proofs.Math.Seq.{get_or-append_seam}
-use Rattle.std.proofs.lemmas.List.Elements.{filter-append}
 use Rattle.std.proofs.lemmas.Bool.{cases_eq, cases_lt, ne_eqb, eq-eqb}
 use Rattle.rules.specs.declared.rows.Row.{Row}
 use Rattle.rules.specs.Entries.{stands, parent_of, outside}
 use Rattle.rules.proofs.Kinship.{rest, is_outside, stands_left}
 use Rattle.tables.specs.Order.{are_in_order}
 use Rattle.tables.specs.Closing.{StayInTurn}
+use Rattle.tables.proofs.Closing.{sifted}
 use Rattle.tables.proofs.Finding.{stands_at}
 use Rattle.tables.proofs.InOrder.{rising, grown, own_parent, of_standing, parent_below, none_at_top, by_parent}
 
@@ -55,16 +55,5 @@ module _ (rows : List Row) (order : are_in_order rows ≡ true) (e : ℕ) where
       ])
     ]
 
-  module _ (Answers : List Row → Row → Bool → Type 0) (says : (kept : List Row) (r : Row) (b : Bool) → Answers kept r b → b ≡ stays_after e kept r) where
-    one_more : (front : List Row) (r : Row) (b : Bool) → b ≡ is_outside rows e r.entry → cond b (rest (is_outside rows e) front ++ r ∷ []) (rest (is_outside rows e) front) ≡ rest (is_outside rows e) (front ++ r ∷ [])
-    one_more front r true is = ap (λ b. rest (is_outside rows e) front ++ cond b (r ∷ []) []) is ∙ sym (filter-append (λ x. is_outside rows e x.entry) front (r ∷ []))
-    one_more front r false is = sym (append-nil (rest (is_outside rows e) front)) ∙ ap (λ b. rest (is_outside rows e) front ++ cond b (r ∷ []) []) is ∙ sym (filter-append (λ x. is_outside rows e x.entry) front (r ∷ []))
-
-    from_front : (front more all : List Row) → rows ≡ front ++ more → StayInTurn Answers (rest (is_outside rows e) front) more all → all ≡ outside e rows
-    from_front front [] all is h = h ∙ ap (rest (is_outside rows e)) (sym (is ∙ append-nil front))
-    from_front front (r ∷ more) all is (b, said, left) =
-        from_front (front ++ r ∷ []) more all (is ∙ sym (append_assoc front (r ∷ []) more))
-        (subst (λ kept. StayInTurn Answers kept more all) (one_more front r b (says (rest (is_outside rows e) front) r b said ∙ as_outside front r more is)) left)
-
-    pub stay_outside : (all : List Row) → StayInTurn Answers [] rows all → all ≡ outside e rows
-    stay_outside all h = from_front [] rows all refl h
+  pub stay_outside : (Answers : List Row → Row → Bool → Type 0) → ((kept : List Row) (r : Row) (b : Bool) → Answers kept r b → b ≡ stays_after e kept r) → (all : List Row) → StayInTurn Answers [] rows all → all ≡ outside e rows
+  stay_outside Answers says = sifted Answers (λ r. is_outside rows e r.entry) rows (λ front r more b is h. says (rest (is_outside rows e) front) r b h ∙ as_outside front r more is)

@@ -1,4 +1,4 @@
-use Rattle.std.proofs.Common.{[], not, eqb, take, rules}
+use Rattle.std.proofs.Common.{not, eqb, take, rules}
 use Rattle.tables.proofs.Closing.{sifted, closed_up}
 use Rattle.tables.proofs.records.Table.end.Goals as goal
 
@@ -8,4 +8,4 @@ returns g c =
     let kept = c.close_up-self-inside in
     rw (← c.self.view_is)
     (closed_up c.self.inside.places.now kept.new.items c.self.inside.filled kept.result c.self.invariant kept.ensures.bound kept.ensures.size
-    (sifted _ test (λ kept x b h. search rules) [] (take c.self.inside.filled c.self.inside.places.now) (take kept.result kept.new.items) kept.ensures.closed))
+    (sifted _ test (take c.self.inside.filled c.self.inside.places.now) (λ front x more b is h. search rules) (take kept.result kept.new.items) kept.ensures.closed))
