@@ -4,7 +4,7 @@ use Rattle.std.specs.List.{All, AllPairs}
 use Rattle.std.proofs.lemmas.List.Elements.{All-nil, All-cons, All-weaker, All-push, All-filter}
 use Rattle.std.proofs.lemmas.List.Kept.{AllPairs-cons, AllPairs-filter}
 use Rattle.std.proofs.lemmas.List.Quantifiers.{all_pairs_push}
-use Rattle.std.proofs.lemmas.Bool.{or_cases, or_left, leb-true, le-leb, eqb-true, eq-eqb, ne_eqb, cases_eq, false_from_ne_true}
+use Rattle.std.proofs.lemmas.Bool.{or_cases, leb-true, le-leb, eqb-true, ne_eqb, cases_eq, false_from_ne_true}
 use Rattle.std.proofs.lemmas.Bool.Decides.{Decides-eqb, Decides-ltb, Decides-and, Decides-or, Decides-like, Decides-at, Decides-by_and, Decides-by_or}
 use Rattle.rules.specs.declared.rows.Row.{Row}
 use Rattle.rules.specs.Entries.{stands, childless, parent_of, Elder, elders, is_among, without, outside}
@@ -145,9 +145,6 @@ module _ (rows : List Row) (o : are_in_order rows ≡ true) (e x : ℕ) where
   module _ (q : ℕ) (is : q ≡ parent_of rows e) (d : q ≡ 0 → ⊥) where
     pub by_parent : is_among (elders rows e) x ≡ (eqb x q || is_among (elders rows q) x)
     by_parent = ap (λ es. is_among es x) (elders_inner rows (grown rows o) e (λ z. d (is ∙ z))) ∙ ap (λ p. eqb x p || is_among (elders rows p) x) (sym is)
-
-    pub parent_is : q ≡ x → true ≡ is_among (elders rows e) x
-    parent_is i = sym (by_parent ∙ or_left (eqb x q) (is_among (elders rows q) x) (eq-eqb x q (sym i)))
 
     pub up_to_parent : (q ≡ x → ⊥) → is_among (elders rows q) x ≡ is_among (elders rows e) x
     up_to_parent n = sym (by_parent ∙ ap (λ b. b || is_among (elders rows q) x) (ne_eqb x q (λ i. n (sym i))))
