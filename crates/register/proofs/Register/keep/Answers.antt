@@ -1,9 +1,8 @@
 use Rattle.std.proofs.Common.{◌≡◌, sym, refl, ap, ◌∙◌}
-use Rattle.std.proofs.lemmas.Bool.{cond-true, cond-false, eq-eqb, ne_eqb}
+use Rattle.std.proofs.lemmas.Bool.{eq-eqb, ne_eqb}
 use Rattle.rules.specs.declared.calls.Call.TheVariants.{Keep}
 use Rattle.rules.specs.declared.calls.Reply.TheVariants.{Done}
 use Rattle.rules.specs.Entries.{parent_of}
-use Rattle.rules.specs.Calls.{passed_state}
 use Rattle.register.specs.Views.{view}
 use Rattle.register.proofs.Promising.{refused, took}
 use Rattle.register.proofs.Register.keep.Goals as goal
@@ -14,9 +13,9 @@ returns-in_err-stands_alone-clause-promised g c = refused (g.K.Kind.rules c.args
 pub returns-then-parent-eq0-clause-promised : goal.returns-then-parent-eq0-clause-promised
 returns-then-parent-eq0-clause-promised g c =
     let e = c.args.entry in
-    let parent : c.parent_of-parent.result ≡ parent_of (view c.args.self.now).rows e = c.parent_of-parent.ensures ∙ ap (λ rows. parent_of rows e) c.as_slice.ensures in
-    took (g.K.Kind.rules c.args.kind.now) (g.met.K.Kind.crossing c.args.kind.now) c.args.self.now (Keep e) c.in_ok-stands_alone.ensures _ _ refl
-    (c.commit.ensures.state ∙ sym (cond-true _ _ _ (eq-eqb _ _ (sym parent ∙ c.if-parent-eq0.true))))
+    let s = view c.args.self.now in
+    let top : parent_of s.rows e ≡ 0 = sym (c.parent_of-parent.ensures ∙ ap (λ rows. parent_of rows e) c.as_slice.ensures) ∙ c.if-parent-eq0.true in
+    took (g.K.Kind.rules c.args.kind.now) (g.met.K.Kind.crossing c.args.kind.now) c.args.self.now (Keep e) c.in_ok-stands_alone.ensures _ _ refl (rw (eq-eqb (parent_of s.rows e) 0 top) c.commit.ensures.state)
 
 pub returns-else-parent-eq0-clause-promised : goal.returns-else-parent-eq0-clause-promised
 returns-else-parent-eq0-clause-promised g c =
@@ -24,4 +23,4 @@ returns-else-parent-eq0-clause-promised g c =
     let s = view c.args.self.now in
     let parent : c.parent_of-parent.result ≡ parent_of s.rows e = c.parent_of-parent.ensures ∙ ap (λ rows. parent_of rows e) c.as_slice.ensures in
     took (g.K.Kind.rules c.args.kind.now) (g.met.K.Kind.crossing c.args.kind.now) c.args.self.now (Keep e) c.in_ok-stands_alone.ensures _ _ refl
-    (c.pass_on.ensures.state ∙ ap (passed_state s e) parent ∙ sym (cond-false _ _ _ (ne_eqb _ _ (λ z. c.if-parent-eq0.false (parent ∙ z)))))
+    (rw (ne_eqb (parent_of s.rows e) 0 (λ z. c.if-parent-eq0.false (parent ∙ z)), ← parent) c.pass_on.ensures.state)
