@@ -1,10 +1,10 @@
 -- A begin: a new entry stands, with nothing held and nothing copied.
 use Rattle.std.proofs.Common.{◌≡◌, ℕ, ◌<◌, true, cond, ◌||◌, eqb, ◌⊎◌, List, [], ◌∷◌, sym, ap, ◌∙◌, subst, inl, inr, arith}
 use Rattle.std.proofs.lemmas.Bool.{ne_eqb}
-use Rattle.std.proofs.ByRecursion.{All-weaker}
 use Rattle.rules.specs.declared.rows.Row.{Row}
 use Rattle.rules.specs.Entries.{stands, elders, is_among, is_own_or_elder}
 use Rattle.rules.specs.FairCopy.{EachInTurn}
+use Rattle.rules.proofs.Each.{All-weaker}
 use Rattle.rules.proofs.Exchanges.{Same, same_nil}
 use Rattle.rules.proofs.Pairs.{pairs_where}
 use Rattle.rules.proofs.Holdings.{Held, held, held_agree, held_none}

@@ -1,7 +1,5 @@
 -- A test that another implies, and a test that is one of two others.
 use Rattle.std.proofs.Common.{◌≡◌, Bool, true, false, not, ◌&&◌, ◌||◌, refl}
--- the shelf's lemma, under the name that other crates have it by
-pub use Rattle.std.proofs.lemmas.Bool.{false_from_ne_true as false_by}
 
 -- a test that another implies
 pub and_implied : (k b : Bool) → (b ≡ true → k ≡ true) → (k && b) ≡ b

@@ -2,10 +2,10 @@
 use Rattle.std.proofs.Common.{◌≡◌, ℕ, Bool, true, false, cond, ◌&&◌, List, [], ◌∷◌, ◌++◌, map, filter, refl, ap}
 use Rattle.std.specs.List.{AllByRecursion as All}
 use Rattle.std.proofs.lemmas.Bool.{cond_both}
-use Rattle.std.proofs.ByRecursion.{All-weaker}
+use Rattle.rules.proofs.Each.{All-weaker, all_both}
 use Rattle.rules.proofs.Exchanges.{Same, same_nil, same_cons, same_trans, same_past}
 use Rattle.rules.proofs.Bools.{Parts, first, second, neither}
-use Rattle.rules.proofs.Pairs.{Pairs, all_both}
+use Rattle.rules.proofs.Pairs.{Pairs}
 
 pub record Held (X : Type 0) : Type 0 where
   pub holder : ℕ

@@ -19,9 +19,6 @@ stands_own r rows e s = or_left (eqb r.entry e) (stands rows e) (eq-eqb r.entry 
 pub stands_more : (r : Row) (rows : List Row) (e : ℕ) → stands rows e ≡ true → stands (r ∷ rows) e ≡ true
 stands_more r rows e s = or_right (eqb r.entry e) (stands rows e) s
 
-pub stands_cases : (r : Row) (rows : List Row) (e : ℕ) → stands (r ∷ rows) e ≡ true → (r.entry ≡ e) ⊎ (stands rows e ≡ true)
-stands_cases r rows e h = elim (or_cases (eqb r.entry e) (stands rows e) h) [ inl k ↦ inl (eqb-true r.entry e k) | inr k ↦ inr k ]
-
 pub parent_own : (r : Row) (rows : List Row) (e : ℕ) → r.entry ≡ e → parent_of (r ∷ rows) e ≡ r.parent
 parent_own r rows e h = cond-true _ _ _ (eq-eqb r.entry e h)
 
@@ -33,7 +30,7 @@ pub parent_none : (rows : List Row) (e : ℕ) → (stands rows e ≡ true → �
 parent_none [] e d = refl
 parent_none (r ∷ rows) e d = parent_other r rows e (λ i. d (stands_own r rows e i)) ∙ parent_none rows e (λ s. d (stands_more r rows e s))
 
-stands_or_top : (rows : List Row) (e : ℕ) → (stands rows e ≡ true) ⊎ (parent_of rows e ≡ 0)
+pub stands_or_top : (rows : List Row) (e : ℕ) → (stands rows e ≡ true) ⊎ (parent_of rows e ≡ 0)
 stands_or_top rows e = elim (cases_Bool (stands rows e)) [ inl s ↦ inl s | inr s ↦ inr (parent_none rows e (both_ways _ s)) ]
 
 -- a look-up among what passes the test k, of something that passes it
@@ -101,7 +98,7 @@ elder_trans {rows} {x} h (its_parent i z) = of_its_parent (subst (Elder rows x) 
 elder_trans h (of_its_parent k) = of_its_parent (elder_trans h k)
 
 module _ (rows : List Row) (g : Grown rows) where
-  parent_falls : (e : ℕ) → (parent_of rows e ≡ 0) ⊎ (parent_of rows e < e)
+  pub parent_falls : (e : ℕ) → (parent_of rows e ≡ 0) ⊎ (parent_of rows e < e)
   parent_falls e = elim (stands_or_top rows e) [ inl s ↦ inr (g.falls e s) | inr z ↦ inl z ]
 
   parent_of_zero : parent_of rows 0 ≡ 0
@@ -203,7 +200,7 @@ module _ (k : ℕ → Bool) where
   parent_rest : (rows : List Row) (e : ℕ) → k e ≡ true → parent_of (rest rows) e ≡ parent_of rows e
   parent_rest rows e h = found_left (λ rs. parent_of rs e) (λ r. eqb r.entry e) (λ r. r.parent) (λ r rs. refl) (λ r. k r.entry) (λ r t. ap k (eqb-true r.entry e t) ∙ h) rows
 
-  stands_left : (rows : List Row) (e : ℕ) → stands (rest rows) e ≡ (k e && stands rows e)
+  pub stands_left : (rows : List Row) (e : ℕ) → stands (rest rows) e ≡ (k e && stands rows e)
   stands_left rows e = stands_any (rest rows) e ∙ any-filter_same (λ r. eqb r.entry e) (λ r. k r.entry) (k e) (λ r t. ap k (eqb-true r.entry e t)) rows ∙ ap (λ b. k e && b) (sym (stands_any rows e))
 
   pub stands_rest : (rows : List Row) (e : ℕ) → stands rows e ≡ true → k e ≡ true → stands (rest rows) e ≡ true

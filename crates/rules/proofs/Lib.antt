@@ -1,5 +1,6 @@
 mod Exchanges
-pub mod Bools
+mod Bools
+mod Each
 mod Pairs
 mod Holdings
 pub mod Numbers

@@ -2,7 +2,6 @@
 use Rattle.std.proofs.Common.{◌≡◌, ℕ, ◌+◌, ◌<◌, Bool, true, false, not, eqb, ◌⊎◌, List, [], ◌∷◌, ◌++◌, Err, sym, refl, subst, inl, inr, arith}
 use Rattle.std.specs.List.{AllByRecursion as All}
 use Rattle.std.proofs.lemmas.Bool.{cond_both}
-use Rattle.std.proofs.ByRecursion.{All-weaker, All-append}
 use Rattle.cells.specs.Kinds.{Rules, CrossingLaw}
 use Rattle.rules.specs.declared.calls.Call.{Call}
 use Rattle.rules.specs.declared.calls.Call.TheVariants.{Begin, Post, Keep, Publish, Abandon, Value}
@@ -13,6 +12,7 @@ use Rattle.rules.specs.States.{State}
 use Rattle.rules.specs.Calls.{Outcome, seen, questions, further_questions, committed_state, kept_state, taken, step}
 use Rattle.rules.specs.Books.{Book, write}
 use Rattle.rules.specs.FairCopy.{Event, Leads, Block, AllDiffer, block_if, added_by, blocks_added}
+use Rattle.rules.proofs.Each.{All-weaker, All-append}
 use Rattle.rules.proofs.Kinship.{rest, stood, others, other_not, joined_cases}
 use Rattle.rules.proofs.Upheld.{Upheld, AllYes, ask_yes, asked, valued}
 use Rattle.rules.proofs.Steps.{upheld_by}

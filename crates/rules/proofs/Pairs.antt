@@ -1,23 +1,14 @@
--- What holds of each element of a list, and of each two, the earlier first.
-use Rattle.std.proofs.Common.{◌≡◌, Bool, true, List, [], ◌∷◌, ◌++◌, map, filter, refl, ap, ◌∙◌}
+-- What holds of each two elements of a list, the earlier first.
+use Rattle.std.proofs.Common.{◌≡◌, Bool, List, [], ◌∷◌, ◌++◌, map, filter, refl, ap, ◌∙◌}
 use Rattle.std.specs.List.{AllByRecursion as All}
 use Rattle.std.proofs.lemmas.Bool.{cond_both, cond-true, cond-false}
-use Rattle.std.proofs.ByRecursion.{All-weaker, All-push, all_kept_by, All-map}
-
--- what holds of everything holds of each element
-pub all_of : {G : Type 0} {P : G → Type 0} → ((g : G) → P g) → (gs : List G) → All P gs
-all_of f [] = tt
-all_of f (g ∷ gs) = (f g, all_of f gs)
-
-pub all_both : {G : Type 0} {P Q S : G → Type 0} → ((g : G) → P g → Q g → S g) → (gs : List G) → All P gs → All Q gs → All S gs
-all_both f [] p q = tt
-all_both f (g ∷ gs) p q = (f g p.0 q.0, all_both f gs p.1 q.1)
+use Rattle.rules.proofs.Each.{All-weaker, All-push, All-filter, All-map, all_both}
 
 abbrev pub Pairs : {G : Type 0} → (G → G → Type 0) → List G → Type 0
 Pairs Q [] = Unit {0}
 Pairs Q (g ∷ gs) = All (Q g) gs × Pairs Q gs
 
--- .. where S holds of each
+-- where S holds of each
 pub pairs_where : {G : Type 0} {S : G → Type 0} {Q Z : G → G → Type 0} → ((g m : G) → S g → S m → Q g m → Z g m) → (gs : List G) → All S gs → Pairs Q gs → Pairs Z gs
 pairs_where f [] s q = tt
 pairs_where f (g ∷ gs) s q = (all_both (λ m. f g m s.0) gs s.1 q.0, pairs_where f gs s.1 q.1)
@@ -32,7 +23,7 @@ pairs_push Q (g ∷ gs) m p a = (All-push _ gs m p.0 a.0, pairs_push _ gs m p.1 
 
 pub pairs_kept : {G : Type 0} (Q : G → G → Type 0) (t : G → Bool) (gs : List G) → Pairs Q gs → Pairs Q (filter t gs)
 pairs_kept Q t [] p = tt
-pairs_kept Q t (g ∷ gs) p = let on = pairs_kept Q t gs p.1 in cond_both (t g) (g ∷ filter t gs) (filter t gs) (Pairs Q) (λ y. (all_kept_by t _ gs p.0, on)) (λ n. on)
+pairs_kept Q t (g ∷ gs) p = let on = pairs_kept Q t gs p.1 in cond_both (t g) (g ∷ filter t gs) (filter t gs) (Pairs Q) (λ y. (All-filter t _ gs p.0, on)) (λ n. on)
 
 -- to filter what a function gives is to filter by what it gives
 pub filter_map_swap : {F G : Type 0} (f : F → G) (t : G → Bool) (xs : List F) → filter t (map f xs) ≡ map f (filter (λ x. t (f x)) xs)
@@ -40,11 +31,6 @@ filter_map_swap f t [] = refl
 filter_map_swap f t (x ∷ xs) =
     cond_both (t (f x)) (x ∷ filter (λ y. t (f y)) xs) (filter (λ y. t (f y)) xs) (λ l. filter t (map f (x ∷ xs)) ≡ map f l)
     (λ y. cond-true _ _ _ y ∙ ap (λ l. f x ∷ l) (filter_map_swap f t xs)) (λ n. cond-false _ _ _ n ∙ filter_map_swap f t xs)
-
--- what is kept passes the test
-pub all_passed : {G : Type 0} (P : G → Type 0) (t : G → Bool) (gs : List G) → All (λ g. t g ≡ true → P g) gs → All P (filter t gs)
-all_passed P t [] p = tt
-all_passed P t (g ∷ gs) p = let on = all_passed P t gs p.1 in cond_both (t g) (g ∷ filter t gs) (filter t gs) (All P) (λ y. (p.0 y, on)) (λ n. on)
 
 pub pairs_map : {F G : Type 0} (Q : G → G → Type 0) (f : F → G) (gs : List F) → Pairs (λ g m. Q (f g) (f m)) gs → Pairs Q (map f gs)
 pairs_map Q f [] p = tt

@@ -2,14 +2,14 @@
 use Rattle.std.proofs.Common.{◌≡◌, ℕ, Bool, true, false, cond, not, ◌&&◌, ◌||◌, eqb, ◌⊎◌, List, ◌∷◌, ◌++◌, fold, sym, refl, ap, ◌∙◌, subst, inl, inr, append_assoc}
 use Rattle.std.specs.List.{AllByRecursion as All}
 use Rattle.std.proofs.lemmas.Bool.{cond_both, eqb-false, or_left, and_left, eqb-true, eq-eqb, ne_eqb, cases_Bool, and_parts, not-true, both_ways, false_from_ne_true}
-use Rattle.std.proofs.ByRecursion.{All-weaker, All-map}
 use Rattle.rules.specs.declared.rows.Row.{Row}
 use Rattle.rules.specs.Entries.{stands, childless, elders, is_among, is_own_or_elder}
 use Rattle.rules.specs.Calls.{holder_after}
 use Rattle.rules.specs.FairCopy.{EachInTurn}
+use Rattle.rules.proofs.Each.{All-weaker, All-map, all_of}
 use Rattle.rules.proofs.Exchanges.{Same, Laws, same_trans, same_sym, same_left, same_right, same_all, same_rightly, right_front, right_back, right_append, stays_ok, past_all}
 use Rattle.rules.proofs.Bools.{Parts, parts_alone, parts_swap, parts_first, parts_or, parts_rest}
-use Rattle.rules.proofs.Pairs.{Pairs, all_of, pairs_weaker, pairs_map}
+use Rattle.rules.proofs.Pairs.{Pairs, pairs_weaker, pairs_map}
 use Rattle.rules.proofs.Holdings.{Held, held, renamed, held_agree, held_renamed, split, cross_held}
 use Rattle.rules.proofs.Numbers.{among_cases}
 use Rattle.rules.proofs.Kinship.{Grown, rest, stood, grown_rest, stands_rest, elders_rest, others, not_other, other_not, closed_others, kin_self, kin_trans, kin_childless}

@@ -2,10 +2,10 @@
 use Rattle.std.proofs.Common.{◌≡◌, ℕ, Bool, true, false, cond, eqb, ◌⊎◌, List, [], ◌∷◌, ◌++◌, fold, sym, refl, ap, ◌∙◌, subst, inl, inr, append-nil}
 use Rattle.std.specs.List.{AllByRecursion as All}
 use Rattle.std.proofs.lemmas.Bool.{eq-eqb, ne_eqb, cases_eq, false_from_ne_true}
-use Rattle.std.proofs.ByRecursion.{All-push}
 use Rattle.rules.specs.declared.rows.Row.{Row}
 use Rattle.rules.specs.Entries.{stands, childless, is_own_or_elder}
 use Rattle.rules.specs.FairCopy.{EachInTurn}
+use Rattle.rules.proofs.Each.{All-push}
 use Rattle.rules.proofs.Exchanges.{Same, Laws, same_right, right_append}
 use Rattle.rules.proofs.Pairs.{pairs_push}
 use Rattle.rules.proofs.Holdings.{Held, held, held_push}

@@ -2,13 +2,13 @@
 use Rattle.std.proofs.Common.{◌≡◌, ℕ, Bool, true, cond, eqb, ◌⊎◌, List, ◌∷◌, fold, filter, sym, ap, ◌∙◌, subst, inl, inr}
 use Rattle.std.specs.List.{AllByRecursion as All}
 use Rattle.std.proofs.lemmas.Bool.{eqb-true, eqb-false, cond_both}
-use Rattle.std.proofs.ByRecursion.{All-weaker, all_kept_by, kept_by_passes}
 use Rattle.rules.specs.declared.rows.Row.{Row}
 use Rattle.rules.specs.Entries.{stands, is_among, is_own_or_elder}
 use Rattle.rules.specs.FairCopy.{EachInTurn}
+use Rattle.rules.proofs.Each.{All-weaker, All-filter, filter_passes, all_of, all_passed}
 use Rattle.rules.proofs.Exchanges.{Same}
 use Rattle.rules.proofs.Bools.{and_implied}
-use Rattle.rules.proofs.Pairs.{Pairs, all_of, pairs_where, pairs_kept, all_passed}
+use Rattle.rules.proofs.Pairs.{Pairs, pairs_where, pairs_kept}
 use Rattle.rules.proofs.Holdings.{Held, held, held_agree, held_kept, held_all}
 use Rattle.rules.proofs.Kinship.{Grown, Closed, rest, grown_rest, stands_rest, elders_rest}
 
@@ -53,9 +53,9 @@ module _ {X : Type 0} {OkItem : X → Type 0} {Cross : X → X → Type 0} {rows
     frame_rest = record {
       grown = grown_rest k rows fr.grown closed;
       holders = all_passed _ (λ g. k g.holder) table (All-weaker _ _ (λ g s h. stands_rest k rows g.holder s h) table fr.holders);
-      items_ok = all_kept_by (λ g. k g.holder) _ table fr.items_ok;
+      items_ok = All-filter (λ g. k g.holder) _ table fr.items_ok;
       order = pairs_where (λ g m kg km o. elim o [ inl c ↦ inl c | inr h ↦ inr (kin_rest m.holder km g.holder ∙ h) ])
-          (left_of k table) (kept_by_passes (λ g. k g.holder) table) (pairs_kept _ (λ g. k g.holder) table fr.order);
+          (left_of k table) (filter_passes (λ g. k g.holder) table) (pairs_kept _ (λ g. k g.holder) table fr.order);
     }
 
     -- what one that stays sees is left

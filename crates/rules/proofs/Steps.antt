@@ -3,7 +3,6 @@ use Rattle.std.specs.List.{list_any}
 use Rattle.std.proofs.Common.{◌≡◌, ℕ, ◌+◌, ◌<◌, Bool, true, false, cond, not, ◌&&◌, eqb, ◌⊎◌, List, [], ◌∷◌, ◌++◌, map, None, fold, filter, sym, refl, ap, ◌∙◌, subst, inl, inr, arith}
 use Rattle.std.specs.List.{AllByRecursion as All}
 use Rattle.std.proofs.lemmas.Bool.{cond_both, false_from_ne_true, eqb-true, eqb-false, or_cases, and_cases, not-false, both_ways}
-use Rattle.std.proofs.ByRecursion.{All-weaker}
 use Rattle.std.proofs.lemmas.List.{map_push}
 use Rattle.cells.specs.Kinds.{Rules, CrossingLaw}
 use Rattle.cells.specs.Sequences.{after_all}
@@ -18,9 +17,9 @@ use Rattle.rules.specs.States.{State}
 use Rattle.rules.specs.Calls.{Outcome, holder_after, seen, commit, held_by, not_held_by, pass_on, earliest_holder, stops_posting, stops_publishing, questions, further_questions, turned_away, committed_state, passed_state, kept_state, taken, step}
 use Rattle.rules.specs.Books.{Copied, Copy, then_line, then_block, lines_of, Book, rows_of, copy_of, with_begun, with_line, with_fair_block, with_block, with_abandoned, write}
 use Rattle.rules.specs.FairCopy.{Event, post_line, GetsItsAnswer}
+use Rattle.rules.proofs.Each.{All-weaker, all_of}
 use Rattle.rules.proofs.Holdings.{Held, held, renamed}
 use Rattle.rules.proofs.Kinship.{Grown, stood, stands_rest, others, not_other, joined_cases, elders_top, elders_inner, no_child}
-use Rattle.rules.proofs.Pairs.{all_of}
 use Rattle.rules.proofs.Standing.{Core, left_of, other_copies}
 use Rattle.rules.proofs.Beginning.{began}
 use Rattle.rules.proofs.Posting.{posted}

@@ -15,19 +15,14 @@ module _ {P : Type 0} (from to : ℕ) where
   Passing was ls i = ls ≡ pass_on from to (take i was) ++ drop i was
 
   module _ (was ls : List (Line P)) (i : ℕ) (at : Passing was ls i) (more : i < length was) (x : Line P) (read : x ≡ get_or ls i x) where
-    next : Passing was (set ls i (held (holder_after from to x.holder) x)) (i + 1)
-    next = map_over_more (λ l. held (holder_after from to l.holder) l) was ls i x more at read
+    -- the line at i gets the holder that it has after
+    turned : (holder : ℕ) → holder ≡ holder_after from to (get_or ls i x).holder → Passing was (set ls i (held holder (get_or ls i x))) (i + 1)
+    turned holder is = ap (λ h. set ls i (held h (get_or ls i x))) is ∙ map_over_more (λ l. held (holder_after from to l.holder) l) was ls i (get_or ls i x) more at (ap (get_or ls i) read)
 
     -- a line of the first one is given to the other
     pub passed : (get_or ls i x).holder ≡ from → Passing was (set ls i (held to (get_or ls i x))) (i + 1)
-    passed own =
-        ap (λ y. set ls i (held to y)) (sym read)
-        ∙ ap (λ h. set ls i (held h x)) (sym (cond-true (eqb x.holder from) to x.holder (eq-eqb x.holder from (ap (λ y. y.holder) read ∙ own))))
-        ∙ next
+    passed own = turned to (sym (cond-true (eqb (get_or ls i x).holder from) to (get_or ls i x).holder (eq-eqb _ from own)))
 
     -- any other is left
     pub left : ((get_or ls i x).holder ≡ from → ⊥) → Passing was (set ls i (get_or ls i x)) (i + 1)
-    left other =
-        ap (set ls i) (sym read)
-        ∙ ap (λ h. set ls i (held h x)) (sym (cond-false (eqb x.holder from) to x.holder (ne_eqb x.holder from (λ own. other (ap (λ y. y.holder) (sym read) ∙ own)))))
-        ∙ next
+    left other = turned (get_or ls i x).holder (sym (cond-false (eqb (get_or ls i x).holder from) to (get_or ls i x).holder (ne_eqb _ from other)))

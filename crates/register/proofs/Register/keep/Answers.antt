@@ -1,9 +1,8 @@
-use Rattle.std.proofs.Common.{◌≡◌, sym, refl, ap, ◌∙◌}
-use Rattle.std.proofs.lemmas.Bool.{cond-true, cond-false, eq-eqb, ne_eqb}
+use Rattle.std.proofs.Common.{sym, refl, ap, ◌∙◌}
+use Rattle.std.proofs.lemmas.Bool.{eq-eqb, ne_eqb}
 use Rattle.rules.specs.declared.calls.Call.TheVariants.{Keep}
 use Rattle.rules.specs.declared.calls.Reply.TheVariants.{Done}
 use Rattle.rules.specs.Entries.{parent_of}
-use Rattle.rules.specs.Calls.{passed_state}
 use Rattle.tables.specs.Places.{unless_register}
 use Rattle.tables.proofs.Finding.{told_parent, untold_parent}
 use Rattle.register.specs.Views.{view}
@@ -16,16 +15,16 @@ returns-in_err-stands_alone-clause-promised g c = refused (g.K.Kind.rules c.args
 pub returns-in-Some-clause-promised : goal.returns-in-Some-clause-promised
 returns-in-Some-clause-promised g c =
     let e = c.args.entry in
-    let s = view c.args.self.now in
-    let asked : c.parent_of.result ≡ unless_register (parent_of s.rows e) = c.parent_of.ensures ∙ ap (λ rows. unless_register (parent_of rows e)) c.as_slice.ensures.standing in
-    let parent = told_parent (parent_of s.rows e) c.in-Some.parent (sym c.in-Some.is ∙ asked) in
+    let rows = (view c.args.self.now).rows in
+    let asked = c.parent_of.ensures ∙ ap (λ rs. unless_register (parent_of rs e)) c.as_slice.ensures.standing in
+    let parent = told_parent (parent_of rows e) c.in-Some.parent (sym c.in-Some.is ∙ asked) in
     took (g.K.Kind.rules c.args.kind.now) (g.met.K.Kind.crossing c.args.kind.now) c.args.self.now (Keep e) c.in_ok-stands_alone.ensures _ _ refl
-    (c.pass_on.ensures.state ∙ ap (passed_state s e) parent.0 ∙ sym (cond-false _ _ _ (ne_eqb _ _ (λ z. parent.1 (parent.0 ∙ z)))))
+    (rw (ne_eqb (parent_of rows e) 0 (λ z. parent.1 (parent.0 ∙ z)), ← parent.0) c.pass_on.ensures.state)
 
 pub returns-in-None-clause-promised : goal.returns-in-None-clause-promised
 returns-in-None-clause-promised g c =
     let e = c.args.entry in
-    let s = view c.args.self.now in
-    let asked : c.parent_of.result ≡ unless_register (parent_of s.rows e) = c.parent_of.ensures ∙ ap (λ rows. unless_register (parent_of rows e)) c.as_slice.ensures.standing in
+    let rows = (view c.args.self.now).rows in
+    let asked = c.parent_of.ensures ∙ ap (λ rs. unless_register (parent_of rs e)) c.as_slice.ensures.standing in
     took (g.K.Kind.rules c.args.kind.now) (g.met.K.Kind.crossing c.args.kind.now) c.args.self.now (Keep e) c.in_ok-stands_alone.ensures _ _ refl
-    (c.commit.ensures.state ∙ sym (cond-true _ _ _ (eq-eqb _ _ (untold_parent (parent_of s.rows e) (sym c.in-None.is ∙ asked)))))
+    (rw (eq-eqb (parent_of rows e) 0 (untold_parent (parent_of rows e) (sym c.in-None.is ∙ asked))) c.commit.ensures.state)

@@ -1,8 +1,7 @@
-use Rattle.std.proofs.Common.{Ok, Err, sym, refl, subst}
+use Rattle.std.proofs.Common.{Ok, Err, refl}
 use Rattle.rules.specs.declared.calls.Call.TheVariants.{Post}
 use Rattle.rules.specs.declared.calls.Reply.TheVariants.{Posted}
-use Rattle.rules.specs.Calls.{Outcome, posted_state, seen}
-use Rattle.register.specs.Promises.{Promised}
+use Rattle.rules.specs.Calls.{seen}
 use Rattle.register.specs.Views.{view}
 use Rattle.register.proofs.Promising.{handed_on, by_value}
 use Rattle.register.proofs.Register.post.Goals as goal
@@ -11,19 +10,12 @@ pub returns-in_err-seen-clause-promised : goal.returns-in_err-seen-clause-promis
 returns-in_err-seen-clause-promised g c =
     let R = g.K.Kind.rules c.args.kind.now in
     let law = g.met.K.Kind.crossing c.args.kind.now in
-    let s = view c.args.self.now in
     let call = Post c.args.entry c.args.cell c.args.posting in
-    let outcome : g.row.V.Denot → Outcome g.row.V.Denot g.row.P.Denot g.row.K-Answer.Denot = λ v. record { answer = Ok (Posted (R.answer v c.args.posting)); state = posted_state s c.args.entry c.args.cell c.args.posting } in
-    handed_on R law c.args.self.now call Posted c.from_residual.result c.in_err-seen.field-0.0 c.from_residual.ensures.1
-    (by_value R law c.args.self.now call (seen R s c.args.entry c.args.cell) outcome refl (Err c.in_err-seen.field-0.0) c.in_err-seen.ensures)
+    handed_on R law c.args.self.now call Posted c.from_residual.result c.in_err-seen.field-0.0 c.from_residual.ensures.1 (by_value R law c.args.self.now call (seen R (view c.args.self.now) c.args.entry c.args.cell) _ refl (Err c.in_err-seen.field-0.0) c.in_err-seen.ensures)
 
 pub returns-clause-promised : goal.returns-clause-promised
 returns-clause-promised g c =
     let R = g.K.Kind.rules c.args.kind.now in
     let law = g.met.K.Kind.crossing c.args.kind.now in
-    let s = view c.args.self.now in
     let call = Post c.args.entry c.args.cell c.args.posting in
-    let outcome : g.row.V.Denot → Outcome g.row.V.Denot g.row.P.Denot g.row.K-Answer.Denot = λ v. record { answer = Ok (Posted (R.answer v c.args.posting)); state = posted_state s c.args.entry c.args.cell c.args.posting } in
-    subst (λ a. Promised R s call (Ok (Posted a)) (view c.add_line.new.self)) (sym c.answer.ensures)
-    (subst (Promised R s call (Ok (Posted (R.answer c.in_ok-seen.seen c.args.posting)))) (sym c.add_line.ensures.state)
-    (by_value R law c.args.self.now call (seen R s c.args.entry c.args.cell) outcome refl (Ok c.in_ok-seen.seen) c.in_ok-seen.ensures))
+    rw (c.answer.ensures, c.add_line.ensures.state) (by_value R law c.args.self.now call (seen R (view c.args.self.now) c.args.entry c.args.cell) _ refl (Ok c.in_ok-seen.seen) c.in_ok-seen.ensures)

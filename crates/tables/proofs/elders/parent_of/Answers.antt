@@ -10,9 +10,9 @@ returns-in_err-parent c = c.from_residual.ensures ∙ ap unless_register (parent
 pub returns-then-parent-eq0 : goal.returns-then-parent-eq0
 returns-then-parent-eq0 c =
     let its = c.in_ok-parent.ensures in
-    ap unless_register (sym c.if-parent-eq0.true ∙ parent_at c.args.rows.now c.args.entry c.in_ok-parent.field-0 its.inside its.its_own its.first)
+    ap unless_register (sym c.if-parent-eq0.true ∙ parent_at c.args.rows.now c.args.entry c.in_ok-parent.field-0 _ its.inside its.its_own its.first)
 
 pub returns-else-parent-eq0 : goal.returns-else-parent-eq0
 returns-else-parent-eq0 c =
     let its = c.in_ok-parent.ensures in
-    sym (cond-false _ _ _ (ne_eqb _ _ c.if-parent-eq0.false)) ∙ ap unless_register (parent_at c.args.rows.now c.args.entry c.in_ok-parent.field-0 its.inside its.its_own its.first)
+    sym (cond-false _ _ _ (ne_eqb _ _ c.if-parent-eq0.false)) ∙ ap unless_register (parent_at c.args.rows.now c.args.entry c.in_ok-parent.field-0 _ its.inside its.its_own its.first)

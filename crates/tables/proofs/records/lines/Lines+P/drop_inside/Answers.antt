@@ -1,4 +1,4 @@
-use Rattle.std.proofs.Common.{[], not, filter, take, rules}
+use Rattle.std.proofs.Common.{not, take, rules}
 use Rattle.rules.specs.declared.lines.Line.{Line}
 use Rattle.rules.specs.Entries.{is_own_or_elder}
 use Rattle.tables.proofs.Closing.{sifted, closed_up}
@@ -7,8 +7,7 @@ use Rattle.tables.proofs.records.lines.Lines+P.drop_inside.Goals as goal
 pub returns : goal.returns
 returns g c =
     let test = λ (line : Line g.row.P.Denot). not (is_own_or_elder c.args.entries.now.rows.now line.holder c.args.entry) in
-    let places = c.self.inside.places.now in
-    let filled = c.self.inside.filled in
     let kept = c.close_up-self-inside in
-    closed_up c.args.self.now c.self.inside.places.ghost_name places filled c.self.view_is c.self.invariant (filter test) kept.new.items kept.result kept.ensures.bound kept.ensures.size
-    (sifted _ test (λ kept x b h. search rules) [] (take filled places) (take kept.result kept.new.items) kept.ensures.closed)
+    rw (← c.self.view_is)
+    (closed_up c.self.inside.places.now kept.new.items c.self.inside.filled kept.result c.self.invariant kept.ensures.bound kept.ensures.size
+    (sifted _ test (take c.self.inside.filled c.self.inside.places.now) (λ front x more b is h. search rules) (take kept.result kept.new.items) kept.ensures.closed))
