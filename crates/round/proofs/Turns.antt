@@ -1,6 +1,6 @@
 -- Calls made in turn: where what is left of them leads, and the history that they make.
-use Rattle.std.proofs.Common.{◌≡◌, ℕ, ◌+◌, ◌<◌, ◌≤◌, List, [], ◌∷◌, ◌++◌, length, get_or, drop, sym, refl, ap, ◌∙◌, subst}
-use Rattle.std.proofs.lemmas.List.{at_drop_more, at_drop_all}
+use Rattle.std.proofs.Common.{◌≡◌, ℕ, ◌≤◌, List, [], ◌∷◌, ◌++◌, length, drop, sym, refl, ◌∙◌, subst}
+use Rattle.std.proofs.lemmas.List.{at_drop_all}
 use Rattle.cells.specs.Kinds.{Rules, CrossingLaw}
 use Rattle.rules.specs.declared.calls.Call.{Call}
 use Rattle.rules.specs.States.{State}
@@ -13,15 +13,6 @@ use Rattle.round.specs.Rounds.{calls_of, state_after, answered_in_turn, GoneThro
 use Rattle.round.specs.declared.steps.Step.{Step}
 
 module _ {V P O : Type 0} (R : Rules V P O) where
-  -- The step x stands at i, and its call takes s to t: what is left from there on leads from t to the same end.
-  pub turn : (s t : State V P) (x : Step P) (steps : List (Step P)) (i : ℕ) (end : State V P) → t ≡ (step R s x.call).state → i < length steps → x ≡ get_or steps i x
-      → state_after R s (calls_of (drop i steps)) ≡ end → state_after R t (calls_of (drop (i + 1) steps)) ≡ end
-  turn s t x steps i end moved within here ends =
-      ap (λ u. state_after R u (calls_of (drop (i + 1) steps))) moved
-      ∙ ap (λ y. state_after R s (calls_of (y ∷ drop (i + 1) steps))) here
-      ∙ sym (at_drop_more (λ rest. state_after R s (calls_of rest)) steps i x within)
-      ∙ ends
-
   -- calls with the rules' answers lead where the rules lead
   all_lead : (s : State V P) (calls : List (Call P)) → Leads R s (answered_in_turn R s calls) (state_after R s calls)
   all_lead s [] = refl
