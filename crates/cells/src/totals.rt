@@ -64,8 +64,9 @@ impl Kind for Total {
         match posting {
             TotalPosting::Look => value,
             TotalPosting::Add(litres) => {
-                // No `try_from`: the remainder fits, and an `Err` that never comes would want an answer.
-                (i64::from(value) + i64::from(litres)).rem_euclid(i64::from(TURNOVER)) as i32
+                // Each is brought below the turnover first, so that the sum is an `i32`.
+                let sum = value.rem_euclid(TURNOVER) + litres.rem_euclid(TURNOVER);
+                sum.rem_euclid(TURNOVER)
             }
         }
     }

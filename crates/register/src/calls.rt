@@ -12,6 +12,7 @@ ghost use Rattle.register.specs.Views.{SameTables, answered, view};
 use crate::Register;
 use cells::kinds::Kind;
 use rules::calls::{Call, Reply};
+use rules::lines::Line;
 use rules::refusals::Refusal;
 use tables::elders;
 
@@ -45,8 +46,13 @@ impl<'a, V: Copy, P: Copy> Register<'a, V, P> {
         ensures promised { Promised (K.rules kind.now) (view self.old) (Post entry cell posting) (answered Posted result) (view self.new) }
         ensures tables { SameTables self.new self.old }
     {
-        let seen = self.may_post(kind, entry, cell, posting)?;
-        self.add_line(entry, cell, posting);
+        let line = Line {
+            holder: entry,
+            cell,
+            posting,
+        };
+        let seen = self.may_post(kind, &line)?;
+        self.add_line(line);
         Ok(kind.answer(seen, posting))
     }
 

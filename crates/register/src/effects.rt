@@ -27,16 +27,12 @@ impl<'a, V: Copy, P: Copy> Register<'a, V, P> {
     }
 
     /// A line is added after all others.
-    pub(crate) fn add_line(&mut self, holder: u16, cell: usize, posting: P)
+    pub(crate) fn add_line(&mut self, line: Line<P>)
         requires { length (view self.old).lines < (view self.old).line_room }
-        ensures state { view self.new ≡ posted_state (view self.old) holder cell posting }
+        ensures state { view self.new ≡ posted_state (view self.old) line.holder line.cell line.posting }
         ensures tables { SameTables self.new self.old }
     {
-        self.lines.push(Line {
-            holder,
-            cell,
-            posting,
-        });
+        self.lines.push(line);
     }
 
     /// The entry ends; its lines change the committed values in posting order, and end.

@@ -1,7 +1,7 @@
 // The register: nested entries over three tables that the host hands over, and the calls on them.
 #![tactic(auto)]
 
-ghost use Rattle.std.specs.Prelude.{◌≡◌, true};
+ghost use Rattle.std.specs.Prelude.{◌≡◌, ◌≤◌, true, length};
 ghost use Rattle.tables.specs.Order.{are_in_order, numbered_to};
 
 use tables::records::{Lines, Rows};
@@ -24,6 +24,8 @@ pub struct Register<'a, V, P> {
     /// Were the tables within their sizes at set-up, and all first values lawful?
     // A flag and no `Option` of the rest: an unsound register keeps its tables, and promises speak of them.
     sound: bool,
+    ghost rows_within: { length rows.standing ≤ rows.room },
+    ghost lines_within: { length lines.standing ≤ lines.room },
     ghost in_order: { are_in_order rows.standing ≡ true },
     ghost numbered: { numbered_to begun rows.standing ≡ true },
 }

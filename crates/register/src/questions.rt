@@ -19,10 +19,10 @@ use tables::searches::Search;
 const LAST_NUMBER: u16 = 65_535;
 
 /// A question: yes, or no with the refusal that says so.
-fn ask(answer: bool, refusal: Refusal) -> Result<(), Refusal>
-    ensures { result ≡ passed (ask answer refusal ∷ []) }
+fn ask(yes: bool, refusal: Refusal) -> Result<(), Refusal>
+    ensures { result ≡ passed (ask yes refusal ∷ []) }
 {
-    if answer { Ok(()) } else { Err(refusal) }
+    if yes { Ok(()) } else { Err(refusal) }
 }
 
 impl<'a, V: Copy, P: Copy> Register<'a, V, P> {
@@ -65,21 +65,17 @@ impl<'a, V: Copy, P: Copy> Register<'a, V, P> {
     pub(crate) fn may_post<K: Kind<Value = V, Posting = P>>(
         &self,
         kind: &K,
-        entry: u16,
-        cell: usize,
-        posting: P,
+        line: &Line<P>,
     ) -> Result<V, Refusal>
-        ensures { result ≡ seen_unless (seen (K.rules kind.now) (view self.now) entry cell) (first_no (questions (K.rules kind.now) (view self.now) (Post entry cell posting))) }
+        ensures { result ≡ seen_unless (seen (K.rules kind.now) (view self.now) line.now.holder line.now.cell) (first_no (questions (K.rules kind.now) (view self.now) (Post line.now.holder line.now.cell line.now.posting))) }
     {
-        self.stands_alone(entry)?;
-        let committed = self.values.get(cell).ok_or(Refusal::NoSuchCell)?;
-        ask(kind.is_lawful_posting(posting), Refusal::UnlawfulPosting)?;
-        let wanted = Line {
-            holder: entry,
-            cell,
-            posting,
-        };
-        let seen = self.search(kind).meet(&wanted, committed)?;
+        self.stands_alone(line.holder)?;
+        let committed = self.values.get(line.cell).ok_or(Refusal::NoSuchCell)?;
+        ask(
+            kind.is_lawful_posting(line.posting),
+            Refusal::UnlawfulPosting,
+        )?;
+        let seen = self.search(kind).meet(line, committed)?;
         ask(!self.lines.is_full(), Refusal::NoFreeLine)?;
         Ok(seen)
     }

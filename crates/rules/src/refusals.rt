@@ -57,8 +57,7 @@ impl Refusal {
         ensures { result ≡ holder_of self }
     {
         match self {
-            Refusal::InTheWay { holder } => holder,
-            Refusal::HeldByElder { holder } => holder,
+            Refusal::InTheWay { holder } | Refusal::HeldByElder { holder } => holder,
             _ => 0,
         }
     }

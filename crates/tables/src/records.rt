@@ -64,7 +64,8 @@ impl<P> Owned for Line<P> {
 impl<'a, T: Copy> Table<'a, T> {
     /// A table over the slice, with all of its places free.
     pub fn over(places: &'a mut [T]) -> Self
-        ensures { result ≡ record { standing = []; room = length places.old; slice = places.entry.ghost_name } }
+        ensures empty { result ≡ record { standing = []; room = length places.old; slice = places.entry.ghost_name } }
+        ensures within { length result.standing ≤ result.room }
     {
         Table { places, filled: 0 }
     }
@@ -74,7 +75,7 @@ impl<'a, T: Copy> Table<'a, T> {
         ensures standing { result.now ≡ self.now.standing }
         ensures within { length self.now.standing ≤ self.now.room }
     {
-        &self.places[0..self.filled]
+        &self.places[..self.filled]
     }
 
     /// Is no place free?
@@ -89,7 +90,8 @@ impl<'a, T: Copy> Table<'a, T> {
     /// Fills the next free place, of which there has to be one.
     pub fn push(&mut self, added: T)
         requires { length self.old.standing < self.old.room }
-        ensures { self.new ≡ record self.old { standing = self.old.standing ++ added ∷ [] } }
+        ensures changed { self.new ≡ record self.old { standing = self.old.standing ++ added ∷ [] } }
+        ensures within { length self.new.standing ≤ self.new.room }
     {
         self.places[self.filled] = added;
         self.filled += 1;
@@ -99,12 +101,14 @@ impl<'a, T: Copy> Table<'a, T> {
 impl<'a, T: Copy + Owned> Table<'a, T> {
     /// Frees the places of one entry's records; the others close up and stay in their order.
     pub fn end(&mut self, entry: u16)
-        ensures { self.new ≡ record self.old { standing = filter (λ t. not (T.whose t == entry)) self.old.standing } }
+        ensures changed { self.new ≡ record self.old { standing = filter (λ t. not (T.whose t == entry)) self.old.standing } }
+        ensures within { length self.new.standing ≤ self.new.room }
     {
-        self.filled = close_up(
+        let stay = close_up(
             &mut self.places[..self.filled],
             |_, item| item.owner() != entry,
         );
+        self.filled = stay;
     }
 }
 

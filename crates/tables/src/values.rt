@@ -4,7 +4,6 @@ ghost use Rattle.rules.specs.Calls.{commit, held_by};
 ghost use Rattle.rules.specs.Cells.{store, value_at};
 ghost use Rattle.rules.specs.States.{all_lawful};
 
-use crate::records::Lines;
 use cells::kinds::Kind;
 use rules::lines::Line;
 use std::marker::Model;

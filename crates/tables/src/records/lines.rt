@@ -1,5 +1,5 @@
 // Lines that change hands, and lines that end without effect.
-ghost use Rattle.std.specs.Prelude.{◌≡◌, not, filter};
+ghost use Rattle.std.specs.Prelude.{◌≡◌, ◌≤◌, length, not, filter};
 ghost use Rattle.rules.specs.Calls.{pass_on};
 ghost use Rattle.rules.specs.Entries.{is_own_or_elder};
 
@@ -10,18 +10,21 @@ use rules::lines::Line;
 impl<'a, P: Copy> Lines<'a, P> {
     /// What one entry holds passes to another, each line in its place.
     pub fn pass_on(&mut self, from: u16, to: u16)
-        ensures { self.new ≡ record self.old { standing = pass_on from to self.old.standing } }
+        ensures changed { self.new ≡ record self.old { standing = pass_on from to self.old.standing } }
+        ensures within { length self.new.standing ≤ self.new.room }
     {
         pass_on(&mut self.places[..self.filled], from, to);
     }
 
     /// Frees the lines of the entry and of every entry that has it as an elder.
     pub fn drop_inside(&mut self, entries: &Entries<'_>, entry: u16)
-        ensures { self.new ≡ record self.old { standing = filter (λ line. not (is_own_or_elder entries.now.rows.now line.holder entry)) self.old.standing } }
+        ensures changed { self.new ≡ record self.old { standing = filter (λ line. not (is_own_or_elder entries.now.rows.now line.holder entry)) self.old.standing } }
+        ensures within { length self.new.standing ≤ self.new.room }
     {
-        self.filled = close_up(&mut self.places[..self.filled], |_, line| {
+        let stay = close_up(&mut self.places[..self.filled], |_, line| {
             !entries.is_own_or_elder(line.holder, entry)
         });
+        self.filled = stay;
     }
 }
 

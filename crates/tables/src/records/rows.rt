@@ -1,5 +1,5 @@
 // The end of an entry with all that stand inside it.
-ghost use Rattle.std.specs.Prelude.{◌≡◌, true};
+ghost use Rattle.std.specs.Prelude.{◌≡◌, ◌≤◌, true, length};
 ghost use Rattle.rules.specs.Entries.{outside};
 ghost use Rattle.tables.specs.Order.{are_in_order};
 
@@ -13,10 +13,12 @@ impl<'a> Rows<'a> {
     /// parent is the register itself or stayed.
     pub fn end_inside(&mut self, entry: u16)
         requires { are_in_order self.old.standing ≡ true }
-        ensures { self.new ≡ record self.old { standing = outside entry self.old.standing } }
+        ensures changed { self.new ≡ record self.old { standing = outside entry self.old.standing } }
+        ensures within { length self.new.standing ≤ self.new.room }
     {
-        self.filled = close_up(&mut self.places[..self.filled], |stayed, row| {
+        let stay = close_up(&mut self.places[..self.filled], |stayed, row| {
             row.entry != entry && elders::is_placed(stayed, row.parent)
         });
+        self.filled = stay;
     }
 }

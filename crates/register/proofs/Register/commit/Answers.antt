@@ -1,8 +1,8 @@
 use Rattle.register.proofs.Rows.{one_ended}
 use Rattle.register.proofs.Register.commit.Goals as goal
 
-pub invariant_of-self : goal.invariant_of-self
-invariant_of-self g c =
-    let s = c.args.self.now in
-    let rows = one_ended s.begun s.rows _ s.in_order s.numbered c.args.entry c.requires c.end-2.ensures in
-    record { in_order = rows.in_order; numbered = rows.numbered }
+pub invariant_of-self-clause-in_order : goal.invariant_of-self-clause-in_order
+invariant_of-self-clause-in_order g c = let s = c.args.self.now in (one_ended s.begun s.rows _ s.in_order s.numbered c.args.entry c.requires c.end-2.ensures.changed).in_order
+
+pub invariant_of-self-clause-numbered : goal.invariant_of-self-clause-numbered
+invariant_of-self-clause-numbered g c = let s = c.args.self.now in (one_ended s.begun s.rows _ s.in_order s.numbered c.args.entry c.requires c.end-2.ensures.changed).numbered

@@ -1,8 +1,8 @@
 use Rattle.register.proofs.Rows.{all_inside_ended}
 use Rattle.register.proofs.Register.drop_inside.Goals as goal
 
-pub invariant_of-self : goal.invariant_of-self
-invariant_of-self g c =
-    let s = c.args.self.now in
-    let rows = all_inside_ended s.begun s.rows _ s.in_order s.numbered c.args.entry c.end_inside.ensures in
-    record { in_order = rows.in_order; numbered = rows.numbered }
+pub invariant_of-self-clause-in_order : goal.invariant_of-self-clause-in_order
+invariant_of-self-clause-in_order g c = let s = c.args.self.now in (all_inside_ended s.begun s.rows _ s.in_order s.numbered c.args.entry c.end_inside.ensures.changed).in_order
+
+pub invariant_of-self-clause-numbered : goal.invariant_of-self-clause-numbered
+invariant_of-self-clause-numbered g c = let s = c.args.self.now in (all_inside_ended s.begun s.rows _ s.in_order s.numbered c.args.entry c.end_inside.ensures.changed).numbered
