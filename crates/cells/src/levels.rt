@@ -9,7 +9,8 @@ use crate::kinds::Kind;
 use std::fmt;
 
 /// What can be posted on a level.
-// A type of each kind, alike or not: `LevelPosting::Set(250)` would read `Posting::Change(Set(250))`.
+// Each kind has its own posting type: of a common one `LevelPosting::Set(250)`
+// would read `Posting::Change(Set(250))`.
 #[derive(Clone, Copy, PartialEq, Eq, Debug, Default)]
 pub enum LevelPosting {
     #[default]
@@ -17,7 +18,7 @@ pub enum LevelPosting {
     Set(i32),
 }
 
-// Beside the word nothing is left that a common function could write.
+// The three kinds differ in their word; a common function would only be handed it.
 impl fmt::Display for LevelPosting {
     ghost output = { λ posting. Some (level_posting_text posting) };
 
@@ -33,7 +34,8 @@ impl fmt::Display for LevelPosting {
 #[derive(Clone, Copy, PartialEq, Eq, Debug)]
 pub struct Level;
 
-// Each kind has all of its row of the rules in one place, also where another's row is the same.
+// The form of a kind is the whole interface, also where another kind answers the same: a default body
+// would have to show the rules of every kind.
 impl Kind for Level {
     type Value = i32;
 

@@ -9,7 +9,8 @@ use crate::kinds::Kind;
 use std::fmt;
 
 /// What can be posted on a mark.
-// A type of each kind, alike or not: `MarkPosting::Raise(312)` would read `Posting::Change(Raise(312))`.
+// Each kind has its own posting type: of a common one `MarkPosting::Raise(312)`
+// would read `Posting::Change(Raise(312))`.
 #[derive(Clone, Copy, PartialEq, Eq, Debug, Default)]
 pub enum MarkPosting {
     #[default]
@@ -17,7 +18,7 @@ pub enum MarkPosting {
     Raise(i32),
 }
 
-// Beside the word nothing is left that a common function could write.
+// The three kinds differ in their word; a common function would only be handed it.
 impl fmt::Display for MarkPosting {
     ghost output = { λ posting. Some (mark_posting_text posting) };
 
@@ -33,7 +34,8 @@ impl fmt::Display for MarkPosting {
 #[derive(Clone, Copy, PartialEq, Eq, Debug)]
 pub struct Mark;
 
-// Each kind has all of its row of the rules in one place, also where another's row is the same.
+// The form of a kind is the whole interface, also where another kind answers the same: a default body
+// would have to show the rules of every kind.
 impl Kind for Mark {
     type Value = i32;
 

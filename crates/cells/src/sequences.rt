@@ -26,6 +26,7 @@ pub fn crosses_each<K: Kind>(kind: &K, posting: K::Posting, others: &[K::Posting
     ensures each { IsTrue result ↔ CrossesEach (K.rules kind.now) posting others.now }
     ensures anywhere { IsTrue result → StandsAnywhere (K.rules kind.now) posting others.now }
 {
+    // A `for`: of a chain by `all` the check does not find the second clause.
     for other in others {
         if !kind.crosses(posting, *other) {
             return false;

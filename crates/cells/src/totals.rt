@@ -13,7 +13,8 @@ const TURNOVER: i32 = 1_000_000_000;
 
 /// What can be posted on a total. An addition may name any number that a script can write; whether it
 /// is lawful is asked of it.
-// A type of each kind, alike or not: `TotalPosting::Add(15)` would read `Posting::Change(Add(15))`.
+// Each kind has its own posting type: of a common one `TotalPosting::Add(15)`
+// would read `Posting::Change(Add(15))`.
 #[derive(Clone, Copy, PartialEq, Eq, Debug, Default)]
 pub enum TotalPosting {
     #[default]
@@ -21,7 +22,7 @@ pub enum TotalPosting {
     Add(i32),
 }
 
-// Beside the word nothing is left that a common function could write.
+// The three kinds differ in their word; a common function would only be handed it.
 impl fmt::Display for TotalPosting {
     ghost output = { λ posting. Some (total_posting_text posting) };
 
@@ -37,7 +38,8 @@ impl fmt::Display for TotalPosting {
 #[derive(Clone, Copy, PartialEq, Eq, Debug)]
 pub struct Total;
 
-// Each kind has all of its row of the rules in one place, also where another's row is the same.
+// The form of a kind is the whole interface, also where another kind answers the same: a default body
+// would have to show the rules of every kind.
 impl Kind for Total {
     type Value = i32;
 

@@ -16,11 +16,14 @@ use rules::lines::Line;
 use rules::refusals::Refusal;
 use tables::elders;
 
+// `SameTables` is a clause and no invariant: it speaks of the register before and after. The bound on the
+// kind stands at each call, see `Register`.
 impl<'a, V: Copy, P: Copy> Register<'a, V, P> {
     /// Begins an entry under the parent, or under the register itself where that is 0. The answer is
     /// the new entry's number.
     ///
     /// The kind is asked nothing: it says which rules the history went by.
+    // 0 and no `Option`: it is the number that a script names.
     pub fn begin<K: Kind<Value = V, Posting = P>>(
         &mut self,
         kind: &K,
@@ -149,6 +152,7 @@ impl<'a, V: Copy, P: Copy> Register<'a, V, P> {
 }
 
 /// The reply to a call that ended an entry.
+// The checker does not cover a `map` of the result by what makes a reply.
 fn done<V, O>(ended: Result<(), Refusal>) -> Result<Reply<V, O>, Refusal>
     ensures { result ≡ answered (λ _. Done) ended }
 {

@@ -10,6 +10,7 @@ use rules::lines::Line;
 use rules::rows::Row;
 use tables::elders::Entries;
 
+// `SameTables` is a clause and no invariant: it speaks of the register before and after.
 impl<'a, V: Copy, P: Copy> Register<'a, V, P> {
     /// The next number stands under the parent.
     pub(crate) fn enter(&mut self, parent: u16) -> u16

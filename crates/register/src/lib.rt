@@ -14,6 +14,8 @@ mod setting_up;
 
 /// A register over cells with values `V` and postings `P`. It holds the tables, and not the kind of
 /// cell: that is lent to each call.
+// No `Register<'a, K>`, which would say the bound on the kind once: a register would then take one kind
+// where it takes any with these values and postings.
 #[derive(Drop)]
 pub struct Register<'a, V, P> {
     values: Values<'a, V>,

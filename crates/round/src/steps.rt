@@ -5,6 +5,7 @@ use rules::calls::Call;
 use std::fmt;
 
 /// Who makes a call.
+// `day` has sources of its own: a crate for three words would be more than they are.
 #[derive(Clone, Copy, PartialEq, Eq, Debug)]
 pub enum Reader {
     /// The logger of the sensors, on its round.
@@ -32,7 +33,7 @@ pub struct Step<P> {
     pub call: Call<P>,
 }
 
-/// Stands for the register itself where an entry is begun.
+/// Stands for the register itself where an entry is begun, as in scripts.
 const TOP: u16 = 0;
 
 // Cells of the register of levels: standpipes 1 and 2 stand in the upper gallery, 3 and 4 in the lower.

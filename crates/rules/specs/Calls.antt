@@ -63,7 +63,7 @@ module _ {V P O : Type 0} (R : Rules V P O) where
   abbrev pub stops_posting_in : List Row → ℕ → ℕ → P → Line P → Bool
   stops_posting_in rows e c p l = l.cell == c && (not (is_own_or_elder rows e l.holder) && not (R.crosses p l.posting))
 
-  -- .. among the entries that stand
+  -- the same, asked of what the register holds
   abbrev pub stops_posting : State V P → ℕ → ℕ → P → Line P → Bool
   stops_posting s e c p l = stops_posting_in s.rows e c p l
 
@@ -75,7 +75,7 @@ module _ {V P O : Type 0} (R : Rules V P O) where
   abbrev pub stops_publishing_in : List Row → List (Line P) → ℕ → Line P → Bool
   stops_publishing_in rows ls e m = is_among (elders rows e) m.holder && holds_uncrossed ls e m
 
-  -- .. among the entries and the lines that stand
+  -- the same, asked of what the register holds
   abbrev pub stops_publishing : State V P → ℕ → Line P → Bool
   stops_publishing s e m = stops_publishing_in s.rows s.lines e m
 

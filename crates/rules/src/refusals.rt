@@ -52,7 +52,7 @@ impl Refusal {
     }
 
     /// The holder that the refusal names; 0 at all questions but 6 and 7.
-    // The rules and answer lines have 0 for nobody, where an `Option` would have `None`.
+    // 0 and no `None`: the rules have 0 for nobody, and so do answer lines, for which this is.
     pub fn holder(self) -> u16
         ensures { result ≡ holder_of self }
     {

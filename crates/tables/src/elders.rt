@@ -1,4 +1,5 @@
-// Look-ups in the standing rows: who stands, under whom, and who is an elder of whom.
+// Look-ups in the standing rows: who stands, under whom, and who is an elder of whom. Those that need no
+// order are functions of any rows: the end of an entry asks them of the rows that stay so far.
 ghost use Rattle.std.specs.Prelude.{◌≡◌, true, ◌||◌, IsTrue, ◌↔◌, MatchOption, ◌==◌};
 ghost use Rattle.rules.specs.Entries.{Elder, childless, elders, is_among, is_own_or_elder, parent_of, stands};
 ghost use Rattle.tables.specs.Order.{are_in_order};
@@ -21,6 +22,7 @@ pub fn is_standing(rows: &[Row], entry: u16) -> bool
 }
 
 /// May an entry stand under this parent: is it the register itself, or an entry that stands?
+// 0 is the register, as in a call.
 pub fn is_placed(rows: &[Row], parent: u16) -> bool
     ensures { result ≡ (parent == 0 || stands rows.now parent) }
 {

@@ -50,6 +50,7 @@ impl<'a, V: Copy> Values<'a, V> {
     pub fn store<K: Kind<Value = V>>(&mut self, kind: &K, cell: usize, posting: K::Posting)
         ensures { self.new ≡ record self.old { values = store (K.rules kind.now) self.old.values cell posting } }
     {
+        // By index: after a `get_mut` the check does not know the other cells.
         if cell < self.cells.len() {
             self.cells[cell] = kind.after(self.cells[cell], posting);
         }

@@ -3,11 +3,12 @@
 use rules::lines::Line;
 use rules::rows::Row;
 
-pub const ANY_ROW: Row = Row {
+pub(crate) const ANY_ROW: Row = Row {
     entry: 7,
     parent: 3,
 };
 
+// A function, since the value of a constant may not be a call yet.
 pub(crate) fn any_line<P>(posting: P) -> Line<P> {
     Line {
         holder: 7,

@@ -28,6 +28,7 @@ impl<'a, P: Copy> Lines<'a, P> {
     }
 }
 
+// A function of a slice, whose clause the method needs no answer for.
 fn pass_on<P>(lines: &mut [Line<P>], from: u16, to: u16)
     ensures { lines.new ≡ pass_on from to lines.old }
 {
