@@ -5,7 +5,7 @@ use cells::totals::TotalPosting;
 use std::fmt;
 
 /// What a reading was taken with.
-// `round` has readers of its own: a crate for three words would be more than they are.
+// `round` has readers and steps of its own: a crate for three words would be more than they are.
 #[derive(Clone, Copy, PartialEq, Eq, Debug)]
 pub enum Source {
     Sensor,

@@ -13,6 +13,7 @@ use tables::elders::Entries;
 // `SameTables` is a clause and no invariant: it speaks of the register before and after.
 impl<'a, V: Copy, P: Copy> Register<'a, V, P> {
     /// The next number stands under the parent.
+    // 0 is the register, as in `begin`.
     pub(crate) fn enter(&mut self, parent: u16) -> u16
         requires placed { (parent == 0 || stands (view self.old).rows parent) ≡ true }
         requires row { length (view self.old).rows < (view self.old).row_room }

@@ -27,6 +27,7 @@ fn ask(yes: bool, refusal: Refusal) -> Result<(), Refusal>
 
 impl<'a, V: Copy, P: Copy> Register<'a, V, P> {
     /// Questions 1, 2, 8 and 10: may an entry be begun under the parent?
+    // 0 is the register, as in `begin`.
     pub(crate) fn may_begin(&self, parent: u16) -> Result<(), Refusal>
         ensures { result ≡ passed (ask (view self.now).sound Unsound ∷ ask (parent == 0 || stands (view self.now).rows parent) NotStanding ∷ ask (nat_lt (length (view self.now).rows) (view self.now).row_room) NoFreeRow ∷ ask (nat_lt (view self.now).begun 65535) NoNumberLeft ∷ []) }
     {

@@ -5,7 +5,7 @@ use rules::calls::Call;
 use std::fmt;
 
 /// Who makes a call.
-// `day` has sources of its own: a crate for three words would be more than they are.
+// `day` has sources and readings of its own: a crate for three words would be more than they are.
 #[derive(Clone, Copy, PartialEq, Eq, Debug)]
 pub enum Reader {
     /// The logger of the sensors, on its round.
