@@ -9,8 +9,8 @@ use crate::kinds::Kind;
 use std::fmt;
 
 /// What can be posted on a level.
-// Each kind has its own posting type: of a common one `LevelPosting::Set(250)`
-// would read `Posting::Change(Set(250))`.
+// Each kind has its own posting type: `LevelPosting::Set(250)` would read
+// `Posting::Change(Set(250))` of a common type, and `Some(250)` as an `Option`.
 #[derive(Clone, Copy, PartialEq, Eq, Debug, Default)]
 pub enum LevelPosting {
     #[default]

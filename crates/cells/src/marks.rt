@@ -9,8 +9,8 @@ use crate::kinds::Kind;
 use std::fmt;
 
 /// What can be posted on a mark.
-// Each kind has its own posting type: of a common one `MarkPosting::Raise(312)`
-// would read `Posting::Change(Raise(312))`.
+// Each kind has its own posting type: `MarkPosting::Raise(312)` would read
+// `Posting::Change(Raise(312))` of a common type, and `Some(312)` as an `Option`.
 #[derive(Clone, Copy, PartialEq, Eq, Debug, Default)]
 pub enum MarkPosting {
     #[default]

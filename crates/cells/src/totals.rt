@@ -13,8 +13,8 @@ const TURNOVER: i32 = 1_000_000_000;
 
 /// What can be posted on a total. An addition may name any number that a script can write; whether it
 /// is lawful is asked of it.
-// Each kind has its own posting type: of a common one `TotalPosting::Add(15)`
-// would read `Posting::Change(Add(15))`.
+// Each kind has its own posting type: `TotalPosting::Add(15)` would read
+// `Posting::Change(Add(15))` of a common type, and `Some(15)` as an `Option`.
 #[derive(Clone, Copy, PartialEq, Eq, Debug, Default)]
 pub enum TotalPosting {
     #[default]

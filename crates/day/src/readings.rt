@@ -22,6 +22,7 @@ impl fmt::Display for Source {
 }
 
 /// One reading: what it was taken with, and what it posts.
+// `round` has its own, as with `Source`.
 #[derive(Clone, Copy, PartialEq, Eq, Debug)]
 pub struct Reading<P> {
     pub source: Source,

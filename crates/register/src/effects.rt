@@ -10,7 +10,8 @@ use rules::lines::Line;
 use rules::rows::Row;
 use tables::elders::Entries;
 
-// `SameTables` is a clause and no invariant: it speaks of the register before and after.
+// `SameTables` is a clause and no invariant: it speaks of the register before and after. The bound on the
+// kind stands at each call, see `Register`.
 impl<'a, V: Copy, P: Copy> Register<'a, V, P> {
     /// The next number stands under the parent.
     // 0 is the register, as in `begin`.

@@ -25,6 +25,7 @@ fn ask(yes: bool, refusal: Refusal) -> Result<(), Refusal>
     if yes { Ok(()) } else { Err(refusal) }
 }
 
+// The bound on the kind stands at each call, see `Register`.
 impl<'a, V: Copy, P: Copy> Register<'a, V, P> {
     /// Questions 1, 2, 8 and 10: may an entry be begun under the parent?
     // 0 is the register, as in `begin`.

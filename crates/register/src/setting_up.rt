@@ -17,6 +17,7 @@ const MOST_ROWS: usize = 256;
 
 const MOST_LINES: usize = 4096;
 
+// The bound on the kind stands at each call, see `Register`.
 impl<'a, V: Copy, P: Copy> Register<'a, V, P> {
     /// A register over the host's tables. All rows and lines are free, and the values stay as they are.
     /// It never refuses: where a table is out of its size or a first value is unlawful, the register

@@ -27,6 +27,7 @@ impl fmt::Display for Reader {
 }
 
 /// One step: a call, and who makes it.
+// `day` has its own, as with `Reader`.
 #[derive(Clone, Copy, PartialEq, Eq, Debug)]
 pub struct Step<P> {
     pub reader: Reader,

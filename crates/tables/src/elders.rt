@@ -1,5 +1,5 @@
 // Look-ups in the standing rows: who stands, under whom, and who is an elder of whom. Those that need no
-// order are functions of any rows: the end of an entry asks them of the rows that stay so far.
+// order are functions of any rows: the end of an entry asks `is_placed` of the rows that stay so far.
 ghost use Rattle.std.specs.Prelude.{◌≡◌, true, ◌||◌, IsTrue, ◌↔◌, MatchOption, ◌==◌};
 ghost use Rattle.rules.specs.Entries.{Elder, childless, elders, is_among, is_own_or_elder, parent_of, stands};
 ghost use Rattle.tables.specs.Order.{are_in_order};

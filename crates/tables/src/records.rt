@@ -61,6 +61,7 @@ impl<P> Owned for Line<P> {
     }
 }
 
+// `within` stands on each function: a caller does not see the model's invariant, only what clauses say.
 impl<'a, T: Copy> Table<'a, T> {
     /// A table over the slice, with all of its places free.
     pub fn over(places: &'a mut [T]) -> Self

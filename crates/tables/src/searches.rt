@@ -23,8 +23,8 @@ impl<'a, K: Kind> Search<'a, K> {
     pub fn meet(&self, wanted: &Line<K::Posting>, committed: K::Value) -> Result<K::Value, Refusal>
         ensures { result ≡ met (changed_by_own (K.rules self.now.kind.now) self.now.entries.rows.now wanted.now.holder wanted.now.cell committed self.now.lines.now) (earliest_holder (stops_posting_in (K.rules self.now.kind.now) self.now.entries.rows.now wanted.now.holder wanted.now.cell wanted.now.posting) self.now.lines.now) }
     {
-        // One pass, where a search and a fold would ask the elder test twice. The holder is named by the
-        // line's place: the first place is what makes the line the earliest.
+        // One pass, where a search and a fold would ask the elder test twice. The holder is named by
+        // index: that is the form of this loop (docs/DECISIONS.md, Forms of code).
         let mut seen = committed;
         for (place, line) in self.lines.iter().enumerate() {
             if line.cell == wanted.cell {
@@ -45,7 +45,7 @@ impl<'a, K: Kind> Search<'a, K> {
     pub fn elder_in_the_way(&self, entry: u16) -> Option<u16>
         ensures { result ≡ earliest_holder (stops_publishing_in (K.rules self.now.kind.now) self.now.entries.rows.now self.now.lines.now entry) self.now.lines.now }
     {
-        // By place, as in `meet`.
+        // By index, as in `meet`.
         let place = self.lines.iter().position(|line| {
             self.entries.is_elder(line.holder, entry) && self.holds_uncrossed(entry, line)
         })?;

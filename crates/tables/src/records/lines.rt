@@ -7,6 +7,7 @@ use super::{Lines, close_up};
 use crate::elders::Entries;
 use rules::lines::Line;
 
+// `within` stands on each function, see `Table`.
 impl<'a, P: Copy> Lines<'a, P> {
     /// What one entry holds passes to another, each line in its place.
     pub fn pass_on(&mut self, from: u16, to: u16)

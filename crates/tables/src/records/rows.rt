@@ -6,6 +6,7 @@ ghost use Rattle.tables.specs.Order.{are_in_order};
 use super::{Rows, close_up};
 use crate::elders;
 
+// `within` stands on each function, see `Table`.
 impl<'a> Rows<'a> {
     /// Frees the rows of the entry and of every entry that has it as an elder.
     ///
