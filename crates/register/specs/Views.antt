@@ -1,5 +1,6 @@
 -- What a register holds, as the rules speak of it, and what its calls return. Assumes nothing.
 use Rattle.std.specs.Prelude.{◌≡◌, Ok, Err, Result}
+use Rattle.std.specs.Borrow.{GName}
 use Rattle.rules.specs.declared.calls.Reply.{Reply}
 use Rattle.rules.specs.declared.refusals.Refusal.{Refusal}
 use Rattle.rules.specs.States.{State}
@@ -17,6 +18,12 @@ module _ {V P : Type 0} where
     row_room = g.rows.room;
     line_room = g.lines.room;
   }
+
+  -- the tables are these three slices
+  pub record IsOver (g : Register V P) (values rows lines : GName) : Type 0 where
+    pub values_slice : g.values.slice ≡ values
+    pub rows_slice : g.rows.slice ≡ rows
+    pub lines_slice : g.lines.slice ≡ lines
 
   -- the tables are still the three slices that the host handed over
   pub record SameTables (g h : Register V P) : Type 0 where

@@ -2,7 +2,7 @@
 ghost use Rattle.std.specs.Prelude.{◌≡◌, ◌&&◌, [], length};
 ghost use Rattle.rules.specs.States.{set_up, size_within};
 ghost use Rattle.register.specs.Promises.{LedTo};
-ghost use Rattle.register.specs.Views.{view};
+ghost use Rattle.register.specs.Views.{IsOver, view};
 
 use crate::Register;
 use cells::kinds::Kind;
@@ -30,9 +30,7 @@ impl<'a, V: Copy, P: Copy> Register<'a, V, P> {
     ) -> Self
         ensures state { view result ≡ set_up (K.rules kind.now) values.old (length rows.old) (length lines.old) }
         ensures law { LedTo (K.rules kind.now) values.old (length rows.old) (length lines.old) [] (view result) }
-        ensures values { result.values.slice ≡ values.entry.ghost_name }
-        ensures rows { result.rows.slice ≡ rows.entry.ghost_name }
-        ensures lines { result.lines.slice ≡ lines.entry.ghost_name }
+        ensures tables { IsOver result values.entry.ghost_name rows.entry.ghost_name lines.entry.ghost_name }
     {
         let sizes_fit = is_within(values.len(), MOST_CELLS)
             && is_within(rows.len(), MOST_ROWS)

@@ -1,5 +1,5 @@
-// What a refusal tells the caller: the number of the question, and a holder. How refusals, calls and
-// replies are written, and what a table holds that is filled with defaults.
+// The records of the rules as a caller meets them: what a refusal tells, how refusals, calls and replies
+// are written, and what the default row and line are.
 use crate::calls::{Call, Reply};
 use crate::lines::Line;
 use crate::refusals::Refusal;

@@ -47,7 +47,7 @@ pub fn parent_of(rows: &[Row], entry: u16) -> Option<u16>
 /// The standing entries, each after its parent, as they were begun.
 #[derive(Clone, Copy)]
 pub struct Entries<'a> {
-    rows: &'a [Row],
+    pub rows: &'a [Row],
     ghost in_order: { are_in_order rows.now ≡ true },
 }
 

@@ -105,11 +105,11 @@ impl<'a, T: Copy + Owned> Table<'a, T> {
         ensures changed { self.new ≡ record self.old { standing = filter (λ t. not (T.whose t == entry)) self.old.standing } }
         ensures within { length self.new.standing ≤ self.new.room }
     {
-        let stay = close_up(
+        let left = close_up(
             &mut self.places[..self.filled],
             |_, item| item.owner() != entry,
         );
-        self.filled = stay;
+        self.filled = left;
     }
 }
 

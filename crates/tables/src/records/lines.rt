@@ -22,14 +22,14 @@ impl<'a, P: Copy> Lines<'a, P> {
         ensures changed { self.new ≡ record self.old { standing = filter (λ line. not (is_own_or_elder entries.now.rows.now line.holder entry)) self.old.standing } }
         ensures within { length self.new.standing ≤ self.new.room }
     {
-        let stay = close_up(&mut self.places[..self.filled], |_, line| {
+        let left = close_up(&mut self.places[..self.filled], |_, line| {
             !entries.is_own_or_elder(line.holder, entry)
         });
-        self.filled = stay;
+        self.filled = left;
     }
 }
 
-// A function of a slice, whose clause the method needs no answer for.
+// A function of the slice: of this loop in the method itself the check finds no proof.
 fn pass_on<P>(lines: &mut [Line<P>], from: u16, to: u16)
     ensures { lines.new ≡ pass_on from to lines.old }
 {

@@ -17,9 +17,9 @@ impl<'a> Rows<'a> {
         ensures changed { self.new ≡ record self.old { standing = outside entry self.old.standing } }
         ensures within { length self.new.standing ≤ self.new.room }
     {
-        let stay = close_up(&mut self.places[..self.filled], |stayed, row| {
+        let left = close_up(&mut self.places[..self.filled], |stayed, row| {
             row.entry != entry && elders::is_placed(stayed, row.parent)
         });
-        self.filled = stay;
+        self.filled = left;
     }
 }
