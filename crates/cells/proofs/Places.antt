@@ -8,24 +8,24 @@ use Rattle.cells.specs.Kinds.{Rules, CrossingLaw}
 use Rattle.cells.specs.Sequences.{after_all, answers_of, CrossesEach, StandsAnywhere}
 
 -- The posting q may be made at v before all of ps as well as after them.
-record SameBeforeAndAfter {V P O : Type 0} (R : Rules V P O) (q : P) (v : V) (ps : List P) : Type 0 where
-  own_answer : R.answer (after_all R v ps) q ≡ R.answer v q
-  other_answers : answers_of R (R.after v q) ps ≡ answers_of R v ps
-  end_value : after_all R (R.after v q) ps ≡ R.after (after_all R v ps) q
+pub record SameBeforeAndAfter {V P O : Type 0} (R : Rules V P O) (q : P) (v : V) (ps : List P) : Type 0 where
+  pub own_answer : R.answer (after_all R v ps) q ≡ R.answer v q
+  pub other_answers : answers_of R (R.after v q) ps ≡ answers_of R v ps
+  pub end_value : after_all R (R.after v q) ps ≡ R.after (after_all R v ps) q
 
 module _ {V P O : Type 0} {R : Rules V P O} (law : CrossingLaw R) where
-  abbrev Lawful : P → Type 0
+  abbrev pub Lawful : P → Type 0
   Lawful p = R.posting_lawful p ≡ true
 
-  abbrev CrossedBy : P → P → Type 0
+  abbrev pub CrossedBy : P → P → Type 0
   CrossedBy q p = R.crosses q p ≡ true
 
-  lawful_after_all : (v : V) (ps : List P) → R.value_lawful v ≡ true → All Lawful ps → R.value_lawful (after_all R v ps) ≡ true
+  pub lawful_after_all : (v : V) (ps : List P) → R.value_lawful v ≡ true → All Lawful ps → R.value_lawful (after_all R v ps) ≡ true
   lawful_after_all v [] ok oks = ok
   lawful_after_all v (p ∷ ps) ok oks = lawful_after_all (R.after v p) ps (law.stays_lawful v p ok (All-head Lawful p ps oks)) (All-tail Lawful p ps oks)
 
   -- a lawful posting that crosses each of them changes places with one after another
-  same_before_and_after : (q : P) → Lawful q → (v : V) (ps : List P) → R.value_lawful v ≡ true → All Lawful ps → All (CrossedBy q) ps → SameBeforeAndAfter R q v ps
+  pub same_before_and_after : (q : P) → Lawful q → (v : V) (ps : List P) → R.value_lawful v ≡ true → All Lawful ps → All (CrossedBy q) ps → SameBeforeAndAfter R q v ps
   same_before_and_after q q_ok v [] ok oks crossed = record { own_answer = refl; other_answers = refl; end_value = refl }
   same_before_and_after q q_ok v (p ∷ ps) ok oks crossed =
       let p_ok = All-head Lawful p ps oks in

@@ -10,7 +10,7 @@ use Rattle.rules.specs.Calls.{Answer, Outcome, at_value, first_no, questions, ta
 use Rattle.rules.specs.Calls.{turned_away as rules_turn_away}
 use Rattle.rules.specs.FairCopy.{Event}
 use Rattle.rules.proofs.Histories.{leads_append}
-use Rattle.rules.proofs.Kinship.{elders_are}
+use Rattle.rules.proofs.Kinship.{Grown, elders_are}
 use Rattle.rules.proofs.Law.{fair_copy_law}
 use Rattle.rules.proofs.Refusing.{answers_rightly}
 use Rattle.tables.proofs.InOrder.{grown}
@@ -28,13 +28,14 @@ module _ {V P O X : Type 0} (s : State V P) (outcome : X → Outcome V P O) wher
   by_questions (Ok x) = outcome x
   by_questions (Err refusal) = rules_turn_away s refusal
 
-module _ {V P O : Type 0} (R : Rules V P O) (law : CrossingLaw R) (was : Register V P) (call : Call P) where
-  abbrev s : State V P
-  s = view was
+-- a register's rows are as begins and ends leave them
+pub grown_in : {V P : Type 0} (g : Register V P) → Grown (view g).rows
+grown_in g = grown (view g).rows g.in_order
 
-  promised : (answer : Answer V O) (t : State V P) → answer ≡ (step R s call).answer → t ≡ (step R s call).state → Promised R s call answer t
+module _ {V P O : Type 0} (R : Rules V P O) (law : CrossingLaw R) (s : State V P) (grows : Grown s.rows) (call : Call P) where
+  pub promised : (answer : Answer V O) (t : State V P) → answer ≡ (step R s call).answer → t ≡ (step R s call).state → Promised R s call answer t
   promised answer t is_answer is_state =
-      let right = answers_rightly R s (elders_are s.rows (grown s.rows was.in_order)) in
+      let right = answers_rightly R s (elders_are s.rows grows) in
       let leads_on : (first : List V) (row_room line_room : ℕ) (history : List (Event V P O)) → LedTo R first row_room line_room history s → LedTo R first row_room line_room (and_then history call answer) t =
       λ first row_room line_room history led. leads_append R (set_up R first row_room line_room) s t history (record { call = call; answer = answer } ∷ []) led (sym is_answer, sym is_state) in
       record {

@@ -197,7 +197,7 @@ module _ (k : ℕ → Bool) where
   abbrev pub rest : List Row → List Row
   rest rows = filter (λ r. k r.entry) rows
 
-  parent_rest : (rows : List Row) (e : ℕ) → k e ≡ true → parent_of (rest rows) e ≡ parent_of rows e
+  pub parent_rest : (rows : List Row) (e : ℕ) → k e ≡ true → parent_of (rest rows) e ≡ parent_of rows e
   parent_rest rows e h = found_left (λ rs. parent_of rs e) (λ r. eqb r.entry e) (λ r. r.parent) (λ r rs. refl) (λ r. k r.entry) (λ r t. ap k (eqb-true r.entry e t) ∙ h) rows
 
   pub stands_left : (rows : List Row) (e : ℕ) → stands (rest rows) e ≡ (k e && stands rows e)

@@ -1,5 +1,5 @@
 mod Exchanges
-mod Bools
+pub mod Bools
 mod Each
 mod Pairs
 mod Holdings

@@ -1,11 +1,12 @@
 use Rattle.std.proofs.Common.{refl}
 use Rattle.rules.specs.declared.calls.Call.TheVariants.{Publish}
 use Rattle.rules.specs.declared.calls.Reply.TheVariants.{Done}
-use Rattle.register.proofs.Promising.{refused, took}
+use Rattle.register.specs.Views.{view}
+use Rattle.register.proofs.Promising.{grown_in, refused, took}
 use Rattle.register.proofs.Register.publish.Goals as goal
 
 pub returns-in_err-may_publish-clause-promised : goal.returns-in_err-may_publish-clause-promised
-returns-in_err-may_publish-clause-promised g c = refused (g.K.Kind.rules c.args.kind.now) (g.met.K.Kind.crossing c.args.kind.now) c.args.self.now (Publish c.args.entry) (λ _. Done) c.from_residual.result c.in_err-may_publish.field-0.0 c.from_residual.ensures.1 c.in_err-may_publish.ensures
+returns-in_err-may_publish-clause-promised g c = refused (g.K.Kind.rules c.args.kind.now) (g.met.K.Kind.crossing c.args.kind.now) (view c.args.self.now) (grown_in c.args.self.now) (Publish c.args.entry) (λ _. Done) c.from_residual.result c.in_err-may_publish.field-0.0 c.from_residual.ensures.1 c.in_err-may_publish.ensures
 
 pub returns-clause-promised : goal.returns-clause-promised
-returns-clause-promised g c = took (g.K.Kind.rules c.args.kind.now) (g.met.K.Kind.crossing c.args.kind.now) c.args.self.now (Publish c.args.entry) c.in_ok-may_publish.ensures _ _ refl c.commit.ensures.state
+returns-clause-promised g c = took (g.K.Kind.rules c.args.kind.now) (g.met.K.Kind.crossing c.args.kind.now) (view c.args.self.now) (grown_in c.args.self.now) (Publish c.args.entry) c.in_ok-may_publish.ensures _ _ refl c.commit.ensures.state
