@@ -3,6 +3,7 @@
 #![tactic(auto)]
 
 pub mod elders;
+pub mod lending;
 pub mod records;
 pub mod searches;
 pub mod values;

@@ -4,30 +4,19 @@ ghost use Rattle.tables.specs.Closing.{IsClosedUp};
 
 use rules::lines::Line;
 use rules::rows::Row;
-use std::marker::Model;
 
 mod lines;
 mod rows;
 
 /// The records that stand fill the first places, in the order in which they came; the places after
 /// them are free.
-// A slice and a count, where a `Vec` would do: the host hands the memory over, and there is no heap.
+// A slice and a count, where a `Vec` would do: the host hands the memory over, and there is no heap. No
+// model: with one, whoever lent the slice would not know what it holds when the table is gone.
 #[derive(Drop)]
 pub struct Table<'a, T> {
     places: &'a mut [T],
     filled: usize,
-}
-
-// Clauses see the records that stand, how many there is room for, and in which slice.
-impl<'a, T> Model for Table<'a, T> {
-    ghost use Rattle.std.specs.Prelude.{◌≤◌, length, take};
-    ghost use Rattle.tables.specs.Tables.{Records};
-
-    ghost Value = { Records T };
-
-    ghost view = { λ t. record { standing = take t.filled t.places.now; room = length t.places.now; slice = t.places.ghost_name } };
-
-    ghost invariant = { λ t. t.filled ≤ length t.places.now };
+    ghost within: { filled ≤ length places.now },
 }
 
 /// The standing entries, first begun to last begun.
@@ -61,38 +50,41 @@ impl<P> Owned for Line<P> {
     }
 }
 
-// `within` stands on each function: a caller does not see the model's invariant, only what clauses say.
+// `within` stands on each function too: the fact in the type speaks of private fields, the clause of what
+// callers see.
 impl<'a, T: Copy> Table<'a, T> {
+    ghost use Rattle.tables.specs.Tables.{records_of};
+
     /// A table over the slice, with all of its places free.
     pub fn over(places: &'a mut [T]) -> Self
-        ensures empty { result ≡ record { standing = []; room = length places.old; slice = places.entry.ghost_name } }
-        ensures within { length result.standing ≤ result.room }
+        ensures empty { records_of result ≡ record { standing = []; room = length places.old; slice = places.entry.ghost_name } }
+        ensures within { length (records_of result).standing ≤ (records_of result).room }
     {
         Table { places, filled: 0 }
     }
 
     /// The records that stand, in the order in which they came.
     pub fn as_slice(&self) -> &[T]
-        ensures standing { result.now ≡ self.now.standing }
-        ensures within { length self.now.standing ≤ self.now.room }
+        ensures standing { result.now ≡ (records_of self.now).standing }
+        ensures within { length (records_of self.now).standing ≤ (records_of self.now).room }
     {
         &self.places[..self.filled]
     }
 
     /// Is no place free?
     pub fn is_full(&self) -> bool
-        ensures full { result ≡ nat_le self.now.room (length self.now.standing) }
-        ensures free { result ≡ false → length self.now.standing < self.now.room }
-        ensures within { length self.now.standing ≤ self.now.room }
+        ensures full { result ≡ nat_le (records_of self.now).room (length (records_of self.now).standing) }
+        ensures free { result ≡ false → length (records_of self.now).standing < (records_of self.now).room }
+        ensures within { length (records_of self.now).standing ≤ (records_of self.now).room }
     {
         self.places.len() <= self.filled
     }
 
     /// Fills the next free place, of which there has to be one.
     pub fn push(&mut self, added: T)
-        requires { length self.old.standing < self.old.room }
-        ensures changed { self.new ≡ record self.old { standing = self.old.standing ++ added ∷ [] } }
-        ensures within { length self.new.standing ≤ self.new.room }
+        requires { length (records_of self.old).standing < (records_of self.old).room }
+        ensures changed { records_of self.new ≡ record (records_of self.old) { standing = (records_of self.old).standing ++ added ∷ [] } }
+        ensures within { length (records_of self.new).standing ≤ (records_of self.new).room }
     {
         self.places[self.filled] = added;
         self.filled += 1;
@@ -100,10 +92,12 @@ impl<'a, T: Copy> Table<'a, T> {
 }
 
 impl<'a, T: Copy + Owned> Table<'a, T> {
+    ghost use Rattle.tables.specs.Tables.{records_of};
+
     /// Frees the places of one entry's records; the others close up and stay in their order.
     pub fn end(&mut self, entry: u16)
-        ensures changed { self.new ≡ record self.old { standing = filter (λ t. not (T.whose t == entry)) self.old.standing } }
-        ensures within { length self.new.standing ≤ self.new.room }
+        ensures changed { records_of self.new ≡ record (records_of self.old) { standing = filter (λ t. not (T.whose t == entry)) (records_of self.old).standing } }
+        ensures within { length (records_of self.new).standing ≤ (records_of self.new).room }
     {
         let left = close_up(
             &mut self.places[..self.filled],

@@ -2,6 +2,7 @@
 ghost use Rattle.std.specs.Prelude.{◌≡◌, ◌≤◌, true, length};
 ghost use Rattle.rules.specs.Entries.{outside};
 ghost use Rattle.tables.specs.Order.{are_in_order};
+ghost use Rattle.tables.specs.Tables.{records_of};
 
 use super::{Rows, close_up};
 use crate::elders;
@@ -13,9 +14,9 @@ impl<'a> Rows<'a> {
     /// Parents stand before their children, so a row stays just where its entry is another and its
     /// parent is the register itself or stayed.
     pub fn end_inside(&mut self, entry: u16)
-        requires { are_in_order self.old.standing ≡ true }
-        ensures changed { self.new ≡ record self.old { standing = outside entry self.old.standing } }
-        ensures within { length self.new.standing ≤ self.new.room }
+        requires { are_in_order (records_of self.old).standing ≡ true }
+        ensures changed { records_of self.new ≡ record (records_of self.old) { standing = outside entry (records_of self.old).standing } }
+        ensures within { length (records_of self.new).standing ≤ (records_of self.new).room }
     {
         let left = close_up(&mut self.places[..self.filled], |stayed, row| {
             row.entry != entry && elders::is_placed(stayed, row.parent)

@@ -6,6 +6,5 @@ pub returns-clause-changed : goal.returns-clause-changed
 returns-clause-changed g c =
     let test = λ (t : g.row.T.Denot). not (eqb (g.T.Owned.whose t) c.args.entry) in
     let kept = c.close_up-left in
-    rw (← c.self.view_is)
-    (closed_up c.self.inside.places.now kept.new.items c.self.inside.filled kept.result c.self.invariant kept.ensures.bound kept.ensures.size
-    (sifted _ test (take c.self.inside.filled c.self.inside.places.now) (λ front x more b is h. search rules) (take kept.result kept.new.items) kept.ensures.closed))
+    closed_up c.args.self.now.places.now kept.new.items c.args.self.now.filled kept.result c.args.self.now.within kept.ensures.bound kept.ensures.size
+    (sifted _ test (take c.args.self.now.filled c.args.self.now.places.now) (λ front x more b is h. search rules) (take kept.result kept.new.items) kept.ensures.closed)

@@ -6,5 +6,5 @@ use Rattle.tables.proofs.values.Values.commit.Given as goal
 abbrev pub invariant-loop-line : goal.invariant-loop-line
 invariant-loop-line g l =
     let R = g.K.Kind.rules l.kind in
-    (commit R l.self.values (held_by l.entry (drop l.line-index l.lines)) ≡ commit R l.initial.self.values (held_by l.entry l.lines))
-    × (l.self.slice ≡ l.initial.self.slice)
+    (commit R l.self.cells.now (held_by l.entry (drop l.line-index l.lines)) ≡ commit R l.initial.self.cells.now (held_by l.entry l.lines))
+    × (l.self.cells.ghost_name ≡ l.initial.self.cells.ghost_name)
