@@ -3,6 +3,8 @@
 #![tactic(auto)]
 
 #[cfg(test)]
+mod lending;
+#[cfg(test)]
 mod nesting;
 #[cfg(test)]
 mod numbers;
