@@ -44,7 +44,7 @@ impl<'a, V: Copy, P: Copy> Register<'a, V, P> {
         ensures state { view self.new ≡ committed_state (K.rules kind.now) (view self.old) entry }
         ensures tables { SameTables self.new self.old }
     {
-        // By a name: of a slice lent through a field in one step the check finds no proof.
+        // By a name: the checker does not cover a slice that is lent from a field behind `&mut self` in one step.
         let lines = &self.lines;
         self.values.commit(kind, lines.as_slice(), entry);
         self.lines.end(entry);

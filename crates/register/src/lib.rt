@@ -27,8 +27,6 @@ pub struct Register<'a, V, P> {
     /// Were the tables within their sizes at set-up, and all first values lawful?
     // A flag and no `Option` of the rest: an unsound register keeps its tables, and promises speak of them.
     sound: bool,
-    ghost rows_within: { length (records_of rows).standing ≤ (records_of rows).room },
-    ghost lines_within: { length (records_of lines).standing ≤ (records_of lines).room },
     ghost in_order: { are_in_order (records_of rows).standing ≡ true },
     ghost numbered: { numbered_to begun (records_of rows).standing ≡ true },
 }

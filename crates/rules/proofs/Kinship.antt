@@ -214,12 +214,24 @@ module _ (k : ℕ → Bool) where
   abbrev pub Closed : List Row → Type 0
   Closed rows = (e x : ℕ) → k e ≡ true → is_own_or_elder rows e x ≡ true → k x ≡ true
 
+  module _ (rows : List Row) (closed : Closed rows) where
+    -- an entry's parent is the first of its elders, but for 0, which has none
+    stays_named : (e : ℕ) → (k e ≡ true) × (e ≡ 0 → ⊥) → (parent_of rows e ≡ 0) ⊎ ((k (parent_of rows e) ≡ true) × (parent_of rows e ≡ 0 → ⊥))
+    stays_named zero stays = absurd (stays.1 refl)
+    stays_named (suc n) stays =
+        let q = parent_of rows (suc n) in
+        elim (cases_eq q 0) [
+          | inl z ↦ inl z
+          | inr d ↦ inr (closed (suc n) q stays.0 (among_more q (suc n) (elders rows (suc n)) (subst (λ l. is_among l q ≡ true) (sym (up_inner rows n (suc n) d)) (among_self q (up_from n rows q)))), d)
+        ]
+
+    pub elders_rest : (e : ℕ) → k e ≡ true → elders (rest rows) e ≡ elders rows e
+    elders_rest zero h = refl
+    elders_rest (suc n) h = up_agree (rest rows) rows (λ x. (k x ≡ true) × (x ≡ 0 → ⊥)) (λ x stays. parent_rest rows x stays.0) stays_named (suc n) (suc n) (h, λ z. absurd (omega arith))
+
   module _ (rows : List Row) (g : Grown rows) (closed : Closed rows) where
     stays_rooted : (e : ℕ) → k e ≡ true → (parent_of rows e ≡ 0) ⊎ (k (parent_of rows e) ≡ true)
     stays_rooted e h = elim (cases_eq (parent_of rows e) 0) [ inl z ↦ inl z | inr d ↦ inr (closed e (parent_of rows e) h (kin_elder rows g (its_parent refl d))) ]
-
-    pub elders_rest : (e : ℕ) → k e ≡ true → elders (rest rows) e ≡ elders rows e
-    elders_rest e h = up_agree (rest rows) rows (λ x. k x ≡ true) (parent_rest rows) stays_rooted e e h
 
     pub grown_rest : Grown (rest rows)
     grown_rest = record {

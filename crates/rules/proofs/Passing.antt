@@ -40,7 +40,7 @@ module _ {V X : Type 0} {after : V → X → V} {Right : V → X → Type 0} {Ok
     by_order k = pairs_weaker k table core.frame.order
 
     same_elders : (f : ℕ) → (f ≡ e → ⊥) → elders left f ≡ elders rows f
-    same_elders f d = elders_rest (others e) rows grown (closed_others rows grown e ch) f (not_other e f d)
+    same_elders f d = elders_rest (others e) rows (closed_others rows grown e ch) f (not_other e f d)
 
     -- e is neither another entry nor its elder
     not_e : (f h : ℕ) → (f ≡ e → ⊥) → is_own_or_elder rows f h ≡ true → h ≡ e → ⊥

@@ -47,7 +47,7 @@ module _ {X : Type 0} {OkItem : X → Type 0} {Cross : X → X → Type 0} {rows
 
   module _ (k : ℕ → Bool) (closed : Closed k rows) where
     kin_rest : (e : ℕ) → k e ≡ true → (x : ℕ) → is_own_or_elder (rest k rows) e x ≡ is_own_or_elder rows e x
-    kin_rest e h x = ap (λ l. is_among (e ∷ l) x) (elders_rest k rows fr.grown closed e h)
+    kin_rest e h x = ap (λ l. is_among (e ∷ l) x) (elders_rest k rows closed e h)
 
     pub frame_rest : Frame OkItem Cross (rest k rows) (left_of k table)
     frame_rest = record {
@@ -61,7 +61,7 @@ module _ {X : Type 0} {OkItem : X → Type 0} {Cross : X → X → Type 0} {rows
     -- what one that stays sees is left
     pub seen_rest : (f : ℕ) → k f ≡ true → held (is_own_or_elder (rest k rows) f) (left_of k table) ≡ held (is_own_or_elder rows f) table
     seen_rest f h =
-        ap (λ l. held (is_among (f ∷ l)) (left_of k table)) (elders_rest k rows fr.grown closed f h)
+        ap (λ l. held (is_among (f ∷ l)) (left_of k table)) (elders_rest k rows closed f h)
         ∙ held_kept k (is_own_or_elder rows f) table
         ∙ held_agree _ _ table (all_of (λ g. and_implied (k g.holder) (is_own_or_elder rows f g.holder) (closed f g.holder h)) table)
 

@@ -1,24 +1,23 @@
 -- Rows in order: what it says of look-ups and elders, and that begins and ends keep it.
 use Rattle.std.proofs.Common.{◌≡◌, ℕ, suc, ◌+◌, ◌<◌, ◌≤◌, Bool, true, false, ◌&&◌, ◌||◌, eqb, ltb, leb, ◌⊎◌, List, [], ◌∷◌, ◌++◌, get_or, Decides, filter, sym, refl, ap, ◌∙◌, subst, inl, inr, arith}
 use Rattle.std.specs.List.{All, AllPairs}
-use Rattle.std.proofs.lemmas.List.Elements.{All-nil, All-cons, All-weaker, All-push, All-filter}
+use Rattle.std.proofs.lemmas.List.Elements.{All-nil, All-cons, All-head, All-tail, All-weaker, All-push, All-filter}
 use Rattle.std.proofs.lemmas.List.Kept.{AllPairs-cons, AllPairs-filter}
 use Rattle.std.proofs.lemmas.List.Quantifiers.{all_pairs_push}
 use Rattle.std.proofs.lemmas.Bool.{or_cases, leb-true, le-leb, eqb-true, ne_eqb, cases_eq, false_from_ne_true}
-use Rattle.std.proofs.lemmas.Bool.Decides.{Decides-eqb, Decides-ltb, Decides-and, Decides-or, Decides-like, Decides-at, Decides-by_and, Decides-by_or}
+use Rattle.std.proofs.lemmas.Bool.Decides.{Decides-eqb, Decides-ltb, Decides-and, Decides-or, Decides-like, Decides-at, Decides-by_and}
 use Rattle.rules.specs.declared.rows.Row.{Row}
 use Rattle.rules.specs.Entries.{stands, childless, parent_of, Elder, elders, is_among, without, outside}
-use Rattle.rules.proofs.Kinship.{Grown, Closed, rest, stands_or_top, parent_falls, elders_top, elders_inner, elders_are, among_elder, elder_below, grown_rest, others, closed_others, is_outside, closed_outside, grown_joined}
+use Rattle.rules.proofs.Kinship.{Grown, Closed, rest, parent_own, parent_other, stands_or_top, parent_falls, elders_top, elders_inner, elders_are, among_elder, elder_below, grown_rest, others, closed_others, is_outside, closed_outside, grown_joined}
 use Rattle.tables.specs.Order.{rising_from, placed_in, are_in_order, numbered_to}
-use Rattle.tables.specs.Places.{no_row}
 use Rattle.tables.proofs.Finding.{stands_at, parent_at}
 
 -- ---- numbers up to n
 
-abbrev UpTo : ℕ → Row → Type 0
+abbrev pub UpTo : ℕ → Row → Type 0
 UpTo n r = r.entry ≤ n
 
-numbered_means : (n : ℕ) (rows : List Row) → Decides (numbered_to n rows) (All (UpTo n) rows)
+pub numbered_means : (n : ℕ) (rows : List Row) → Decides (numbered_to n rows) (All (UpTo n) rows)
 numbered_means n rows = Decides-by_and (λ r. leb r.entry n) (UpTo n) (numbered_to n) (λ r. (leb-true r.entry n, le-leb r.entry n)) refl (λ r rs. refl) rows
 
 pub numbered_push : (n : ℕ) (rows : List Row) (r : Row) → numbered_to n rows ≡ true → r.entry ≡ n + 1 → numbered_to (n + 1) (rows ++ (r ∷ [])) ≡ true
@@ -53,11 +52,17 @@ placed_means all rows =
     Decides-by_and (λ r. eqb r.parent 0 || (ltb r.parent r.entry && stands all r.parent)) (λ r. Rooted all r.entry r.parent) (placed_in all)
     (λ r. Decides-or _ _ (Decides-eqb r.parent 0) (Decides-and _ _ (Decides-ltb r.parent r.entry) (λ s. s, λ s. s))) refl (λ r rs. refl) rows
 
--- what holds of each row's entry holds of who stands
+-- what holds of each row's entry and parent holds of who stands and its parent ..
+looked_up : (P : ℕ → ℕ → Type 0) (rows : List Row) → All (λ r. P r.entry r.parent) rows → (e : ℕ) → stands rows e ≡ true → P e (parent_of rows e)
+looked_up P [] each e s = cc
+looked_up P (r ∷ rows) each e s = elim (cases_eq r.entry e) [
+  | inl i ↦ subst (P e) (sym (parent_own r rows e i)) (subst (λ x. P x r.parent) i (All-head (λ x. P x.entry x.parent) r rows each))
+  | inr d ↦ subst (P e) (sym (parent_other r rows e d)) (looked_up P rows (All-tail (λ x. P x.entry x.parent) r rows each) e (elim (or_cases (eqb r.entry e) (stands rows e) s) [ inl i ↦ absurd (d (eqb-true r.entry e i)) | inr t ↦ t ]))
+]
+
+-- .. and what holds of each row's entry alone
 pub of_standing : (P : ℕ → Type 0) (rows : List Row) → All (λ r. P r.entry) rows → (e : ℕ) → stands rows e ≡ true → P e
-of_standing P rows each e s =
-    let at = (Decides-by_or (λ r. eqb r.entry e) (λ r. r.entry ≡ e) (λ rs. stands rs e) (λ r. Decides-eqb r.entry e) refl (λ r rs. refl) rows).0 s in
-    subst P (at.2 no_row) (each at.0 no_row at.1)
+of_standing P = looked_up (λ e q. P e)
 
 module _ (rows : List Row) (rises : Rising rows) where
   -- each row is the one that a look-up of its entry finds
@@ -67,8 +72,7 @@ module _ (rows : List Row) (rises : Rising rows) where
   grown_from_rows : All (λ r. 0 < r.entry) rows → All (λ r. Rooted rows r.entry r.parent) rows → Grown rows
   grown_from_rows positive rooted =
       let above_zero : (e : ℕ) → stands rows e ≡ true → 0 < e = of_standing (λ e. 0 < e) rows positive in
-      let cases : (e : ℕ) → stands rows e ≡ true → Rooted rows e (parent_of rows e) =
-      of_standing (λ e. Rooted rows e (parent_of rows e)) rows (λ i d l. subst (Rooted rows (get_or rows i d).entry) (sym (own_parent i d l)) (rooted i d l)) in
+      let cases : (e : ℕ) → stands rows e ≡ true → Rooted rows e (parent_of rows e) = looked_up (Rooted rows) rows rooted in
       record {
         zero_free = λ s. omega (arith, above_zero 0 s);
         falls = λ e s. elim (cases e s) [ inl z ↦ omega (arith, above_zero e s) | inr k ↦ k.0 ];

@@ -4,4 +4,4 @@ mod Cells
 mod Searching
 mod Closing
 mod Passing
-mod Outside
+pub mod Outside

@@ -50,23 +50,19 @@ impl<P> Owned for Line<P> {
     }
 }
 
-// `within` stands on each function too: the fact in the type speaks of private fields, the clause of what
-// callers see.
 impl<'a, T: Copy> Table<'a, T> {
     ghost use Rattle.tables.specs.Tables.{records_of};
 
     /// A table over the slice, with all of its places free.
     pub fn over(places: &'a mut [T]) -> Self
-        ensures empty { records_of result ≡ record { standing = []; room = length places.old; slice = places.entry.ghost_name } }
-        ensures within { length (records_of result).standing ≤ (records_of result).room }
+        ensures { records_of result ≡ record { standing = []; room = length places.old; slice = places.entry.ghost_name } }
     {
         Table { places, filled: 0 }
     }
 
     /// The records that stand, in the order in which they came.
     pub fn as_slice(&self) -> &[T]
-        ensures standing { result.now ≡ (records_of self.now).standing }
-        ensures within { length (records_of self.now).standing ≤ (records_of self.now).room }
+        ensures { result.now ≡ (records_of self.now).standing }
     {
         &self.places[..self.filled]
     }
@@ -75,7 +71,6 @@ impl<'a, T: Copy> Table<'a, T> {
     pub fn is_full(&self) -> bool
         ensures full { result ≡ nat_le (records_of self.now).room (length (records_of self.now).standing) }
         ensures free { result ≡ false → length (records_of self.now).standing < (records_of self.now).room }
-        ensures within { length (records_of self.now).standing ≤ (records_of self.now).room }
     {
         self.places.len() <= self.filled
     }
@@ -83,8 +78,7 @@ impl<'a, T: Copy> Table<'a, T> {
     /// Fills the next free place, of which there has to be one.
     pub fn push(&mut self, added: T)
         requires { length (records_of self.old).standing < (records_of self.old).room }
-        ensures changed { records_of self.new ≡ record (records_of self.old) { standing = (records_of self.old).standing ++ added ∷ [] } }
-        ensures within { length (records_of self.new).standing ≤ (records_of self.new).room }
+        ensures { records_of self.new ≡ record (records_of self.old) { standing = (records_of self.old).standing ++ added ∷ [] } }
     {
         self.places[self.filled] = added;
         self.filled += 1;
@@ -96,8 +90,7 @@ impl<'a, T: Copy + Owned> Table<'a, T> {
 
     /// Frees the places of one entry's records; the others close up and stay in their order.
     pub fn end(&mut self, entry: u16)
-        ensures changed { records_of self.new ≡ record (records_of self.old) { standing = filter (λ t. not (T.whose t == entry)) (records_of self.old).standing } }
-        ensures within { length (records_of self.new).standing ≤ (records_of self.new).room }
+        ensures { records_of self.new ≡ record (records_of self.old) { standing = filter (λ t. not (T.whose t == entry)) (records_of self.old).standing } }
     {
         let left = close_up(
             &mut self.places[..self.filled],

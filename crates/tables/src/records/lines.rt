@@ -8,20 +8,17 @@ use super::{Lines, close_up};
 use crate::elders::Entries;
 use rules::lines::Line;
 
-// `within` stands on each function, see `Table`.
 impl<'a, P: Copy> Lines<'a, P> {
     /// What one entry holds passes to another, each line in its place.
     pub fn pass_on(&mut self, from: u16, to: u16)
-        ensures changed { records_of self.new ≡ record (records_of self.old) { standing = pass_on from to (records_of self.old).standing } }
-        ensures within { length (records_of self.new).standing ≤ (records_of self.new).room }
+        ensures { records_of self.new ≡ record (records_of self.old) { standing = pass_on from to (records_of self.old).standing } }
     {
         pass_on(&mut self.places[..self.filled], from, to);
     }
 
     /// Frees the lines of the entry and of every entry that has it as an elder.
     pub fn drop_inside(&mut self, entries: &Entries<'_>, entry: u16)
-        ensures changed { records_of self.new ≡ record (records_of self.old) { standing = filter (λ line. not (is_own_or_elder entries.now.rows.now line.holder entry)) (records_of self.old).standing } }
-        ensures within { length (records_of self.new).standing ≤ (records_of self.new).room }
+        ensures { records_of self.new ≡ record (records_of self.old) { standing = filter (λ line. not (is_own_or_elder entries.now.rows.now line.holder entry)) (records_of self.old).standing } }
     {
         let left = close_up(&mut self.places[..self.filled], |_, line| {
             !entries.is_own_or_elder(line.holder, entry)

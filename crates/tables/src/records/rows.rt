@@ -7,7 +7,6 @@ ghost use Rattle.tables.specs.Tables.{records_of};
 use super::{Rows, close_up};
 use crate::elders;
 
-// `within` stands on each function, see `Table`.
 impl<'a> Rows<'a> {
     /// Frees the rows of the entry and of every entry that has it as an elder.
     ///
@@ -15,8 +14,7 @@ impl<'a> Rows<'a> {
     /// parent is the register itself or stayed.
     pub fn end_inside(&mut self, entry: u16)
         requires { are_in_order (records_of self.old).standing ≡ true }
-        ensures changed { records_of self.new ≡ record (records_of self.old) { standing = outside entry (records_of self.old).standing } }
-        ensures within { length (records_of self.new).standing ≤ (records_of self.new).room }
+        ensures { records_of self.new ≡ record (records_of self.old) { standing = outside entry (records_of self.old).standing } }
     {
         let left = close_up(&mut self.places[..self.filled], |stayed, row| {
             row.entry != entry && elders::is_placed(stayed, row.parent)

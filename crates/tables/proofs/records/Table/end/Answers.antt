@@ -2,8 +2,8 @@ use Rattle.std.proofs.Common.{not, eqb, take, rules}
 use Rattle.tables.proofs.Closing.{sifted, closed_up}
 use Rattle.tables.proofs.records.Table.end.Goals as goal
 
-pub returns-clause-changed : goal.returns-clause-changed
-returns-clause-changed g c =
+pub returns : goal.returns
+returns g c =
     let test = λ (t : g.row.T.Denot). not (eqb (g.T.Owned.whose t) c.args.entry) in
     let kept = c.close_up-left in
     closed_up c.args.self.now.places.now kept.new.items c.args.self.now.filled kept.result c.args.self.now.within kept.ensures.bound kept.ensures.size

@@ -4,8 +4,8 @@ use Rattle.rules.specs.Entries.{is_own_or_elder}
 use Rattle.tables.proofs.Closing.{sifted, closed_up}
 use Rattle.tables.proofs.records.lines.Lines+P.drop_inside.Goals as goal
 
-pub returns-clause-changed : goal.returns-clause-changed
-returns-clause-changed g c =
+pub returns : goal.returns
+returns g c =
     let test = λ (line : Line g.row.P.Denot). not (is_own_or_elder c.args.entries.now.rows.now line.holder c.args.entry) in
     let kept = c.close_up-left in
     closed_up c.args.self.now.places.now kept.new.items c.args.self.now.filled kept.result c.args.self.now.within kept.ensures.bound kept.ensures.size
