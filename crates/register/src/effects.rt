@@ -44,7 +44,7 @@ impl<'a, V: Copy, P: Copy> Register<'a, V, P> {
         ensures state { view self.new ≡ committed_state (K.rules kind.now) (view self.old) entry }
         ensures tables { SameTables self.new self.old }
     {
-        // By a name: the checker does not cover a slice that is lent from a field behind `&mut self` in one step.
+        // By a name: the checker does not cover a slice lent from one field in the step that changes another.
         let lines = &self.lines;
         self.values.commit(kind, lines.as_slice(), entry);
         self.lines.end(entry);

@@ -1,7 +1,7 @@
 // The register: nested entries over three tables that the host hands over, and the calls on them.
 #![tactic(auto)]
 
-ghost use Rattle.std.specs.Prelude.{◌≡◌, ◌≤◌, true, length};
+ghost use Rattle.std.specs.Prelude.{◌≡◌, true};
 ghost use Rattle.tables.specs.Order.{are_in_order, numbered_to};
 ghost use Rattle.tables.specs.Tables.{records_of};
 

@@ -1,5 +1,5 @@
 // Lines that change hands, and lines that end without effect.
-ghost use Rattle.std.specs.Prelude.{◌≡◌, ◌≤◌, length, not, filter};
+ghost use Rattle.std.specs.Prelude.{◌≡◌, not, filter};
 ghost use Rattle.rules.specs.Calls.{pass_on};
 ghost use Rattle.rules.specs.Entries.{is_own_or_elder};
 ghost use Rattle.tables.specs.Tables.{records_of};

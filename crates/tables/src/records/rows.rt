@@ -1,5 +1,5 @@
 // The end of an entry with all that stand inside it.
-ghost use Rattle.std.specs.Prelude.{◌≡◌, ◌≤◌, true, length};
+ghost use Rattle.std.specs.Prelude.{◌≡◌, true};
 ghost use Rattle.rules.specs.Entries.{outside};
 ghost use Rattle.tables.specs.Order.{are_in_order};
 ghost use Rattle.tables.specs.Tables.{records_of};
